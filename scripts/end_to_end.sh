@@ -593,7 +593,7 @@ for threads in 1 2 4 64; do
 done
 # Its parts read one another, so that each thread is given nets of those before it.
 shared_out "clocked, local" 9000
-# It has no flip-flops, so its nets aren't shared out: with four threads one has the engine, and two make its 45 MB of text.
+# It has no flip-flops, so its nets aren't shared out: with four threads one has the engine, and all make its 45 MB of text.
 shared_out "multiplier 104" 5024
 tried_cases
 echo "$passed passed, $failed failed"

@@ -94,8 +94,8 @@ pub fn first_text<'a>(
     Ok((dump, kept))
 }
 
-/// The text of a window, by the nets that changed in it: where there are none, that costs nothing.
-pub fn format_window(dump: &mut Dump<'_>, changed: &[Changed], upto: u32) -> Result<(), AllocError>
+// The text of a window, by the nets that changed in it: where there are none, that costs nothing.
+fn format_window(dump: &mut Dump<'_>, changed: &[Changed], upto: u32) -> Result<(), AllocError>
     requires window { IsWindow (nets_of dump.old.subject.design) dump.old.subject.design.horizon dump.old.clock upto
         changed.now }
     requires tells { TellsShown dump.old.subject.shown (value dump.old.subject.design)

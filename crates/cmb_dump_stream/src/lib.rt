@@ -8,7 +8,7 @@ pub mod text;
 pub mod text_maker;
 
 pub use buffer::TextBuffer;
-pub use first::{first_text, format_window, keep_window};
+pub use first::{first_text, keep_window};
 pub use stream::Stream;
 pub use text::{write_rest, write_stream};
 pub use text_maker::TextMaker;

@@ -63,16 +63,6 @@ impl<'a> Stream<'a> {
             kept,
         ))
     }
-
-    /// The engine and the dump, for one who goes on with them otherwise.
-    pub fn into_parts(self) -> (Engine<'a>, Dump<'a>)
-        ensures parts { IsStream result.0 result.1 }
-        ensures subject { result.1.subject ≡ self.entry.subject }
-        ensures clock { result.0.clock ≡ self.entry.clock }
-    {
-        let Stream { engine, dump, .. } = self;
-        (engine, dump)
-    }
 }
 
 impl<'a> TextMaker for Stream<'a> {

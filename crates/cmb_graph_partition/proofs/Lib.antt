@@ -1,1 +1,2 @@
 pub mod PartitionFacts
+pub mod WholeFacts

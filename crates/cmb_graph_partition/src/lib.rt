@@ -22,5 +22,5 @@ pub mod structure;
 
 pub use cut::{MOST_SHARES, partition};
 pub use loads::{load, total};
-pub use shares::{Partition, Share};
+pub use shares::{Partition, Share, whole_partition};
 pub use structure::{Structure, structure_of};

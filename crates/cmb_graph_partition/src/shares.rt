@@ -1,5 +1,11 @@
 //! What a partition is.
 
+ghost use Rattle.std.specs.Prelude.{◌≡◌, length, IfOk};
+ghost use Rattle.cmb_graph_partition.specs.Partitions.{IsPartition};
+
+use cmb_netlist::Netlist;
+use std::alloc::{AllocError, Global};
+
 /// The nets that one logical process drives.
 #[derive(Drop)]
 pub struct Share {
@@ -16,4 +22,22 @@ pub struct Partition {
     pub crossing: Vec<bool>,
     /// The shares, in any order: each may read what any other owns.
     pub shares: Vec<Share>,
+}
+
+/// The partition with one share, which has all nets. Errors: memory was refused.
+pub fn whole_partition(alloc: Global, netlist: &Netlist) -> Result<Partition, AllocError>
+    ensures partition { IfOk result (IsPartition netlist.now) }
+    ensures one { IfOk result (λ partition. length partition.shares.items ≡ 1) }
+{
+    let nets = netlist.len();
+    let owners = vec![in alloc; 0; nets]?;
+    let crossing = vec![in alloc; false; nets]?;
+    let driven = vec![in alloc; true; nets]?;
+    let mut shares = Vec::new(alloc);
+    shares.push(Share { driven })?;
+    Ok(Partition {
+        owners,
+        crossing,
+        shares,
+    })
 }

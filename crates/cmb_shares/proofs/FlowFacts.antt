@@ -13,6 +13,7 @@ use Rattle.cmb_shares.specs.Inner.Gatherings.{Adds, AreTaken, Holds, IsBlank, Ta
 use Rattle.cmb_shares.specs.Inner.Messages.{AreTold}
 use Rattle.cmb_shares.specs.Inner.Runs.{IsRun, Run}
 use Rattle.cmb_shares.proofs.HeardFacts.{neither}
+use Rattle.cmb_shares.proofs.RisingFacts.{rises-within}
 
 -- ---- no share made anything
 
@@ -73,3 +74,11 @@ taken-none table changes none = subst (λ (l : List Changed). AreTaken table (64
   each = λ k d h. absurd (omega (arith, h));
   whole = λ net below. absurd (omega (arith, below));
 })
+
+-- the one share made what it tells the text
+pub made-alone : (run : Run) (from upto : ℕ) (changes : List Changed) → length run.driven ≡ 1 → AreTold run 0 (length run.driven) from upto changes → AreMade run (length run.driven) from upto changes
+made-alone run from upto changes one told = record {
+  rises = rises-within (nets_of run.design) changes (told.rises (omega arith)) told.within;
+  words = told.words;
+  others = λ net made shown none. told.others net (made.0, omega (arith, made.1, one)) ((λ share. absurd (omega (arith, share))), (λ _. shown)) none;
+}

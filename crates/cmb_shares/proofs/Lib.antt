@@ -9,3 +9,4 @@ pub mod ProcessFacts
 pub mod StationFacts
 pub mod ToldFacts
 pub mod TraceFacts
+pub mod RisingFacts

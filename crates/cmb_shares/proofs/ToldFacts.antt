@@ -11,6 +11,7 @@ use Rattle.cmb_words.specs.Changes.{IsStill, RisesWithin, TellsNet, is_among}
 use Rattle.cmb_words.specs.declared.changed.Changed.{Changed}
 use Rattle.cmb_words.proofs.Rising.{rises_at}
 use Rattle.cmb_words.proofs.StillFacts.{still-empty}
+use Rattle.cmb_shares.proofs.RisingFacts.{rise-of}
 use Rattle.cmb_shares.specs.declared.simulator.Simulator.{Simulator}
 use Rattle.cmb_shares.specs.Inner.Messages.{AreTold}
 use Rattle.cmb_shares.specs.Inner.Runs.{IsRun, Owns, Reads, Run, driven_by}
@@ -65,7 +66,7 @@ module _ (run : Run) (number reader from upto : ℕ) (changed : List Changed) (p
     (whole : (x : Changed) → Owns run number x.net → Reads run reader x.net → p x ≡ true)
     (words : (one : Changed) → Contains changed one → Owns run number one.net → TellsNet (value run.design) from upto one)
     (others : (net : ℕ) → Owns run number net → Reads run reader net → is_among net changed ≡ false → IsStill (value run.design net) from upto)
-    (is : IsRun run) where
+    (is : IsRun run) (share : reader < length run.driven) where
   abbrev IsTold : Changed → Type 0
   IsTold one = Owns run number one.net → TellsNet (value run.design) from upto one
 
@@ -83,6 +84,7 @@ module _ (run : Run) (number reader from upto : ℕ) (changed : List Changed) (p
   told-filter : AreTold run number reader from upto (filter p changed)
   told-filter = record {
     within = λ k d h. omega (arith, is.nets, (mine k d h).0);
+    rises = λ text. absurd (omega (arith, share, text));
     among = λ share k d h. mine k d h;
     words = λ k d h. All-filter p IsTold changed all k d h (mine k d h);
     others = λ net own reads none. others net own reads (sym (among-filter p net (fits net own reads) changed) ∙ none);
@@ -93,6 +95,7 @@ pub told-owned : (run : Run) (s : Simulator) (changed : List Changed) (upto : �
     → RisesWithin 0 (nets_of run.design) changed → AreTold run s.number (length run.driven) s.engine.clock upto changed
 told-owned run s changed upto is tells rises = record {
   within = λ k d small. rises_at 0 (nets_of run.design) changed k d rises small;
+  rises = λ _. rise-of 0 (nets_of run.design) changed rises;
   among = λ share. absurd (omega (arith, share));
   words = tells.words;
   others = λ net own reads none. tells.others net (subst (λ (driven : List Bool). IsDriven driven net) (sym is.driven) (is.lawful.owned s.number net is.number own), is.told net own (reads.1 (omega arith))) none;
@@ -108,7 +111,7 @@ told-fed run s reader from upto told is within only tells =
     (λ x own reads. and_from _ _ (owns-owned run s.number x own) (not_from_false _ (reads.0 within).undriven))
     (λ one there own. tells.words one there (All-contains (λ (c : Changed). Contains s.engine.exports c.net) told one only there))
     (λ net own reads none. tells.others net ((is.exports net).1 (is.lawful.owned s.number net is.number own, is.lawful.known reader net within (reads.0 within))) none)
-    is.lawful
+    is.lawful within
 
 -- of no tick nothing is told
 pub told-nothing : (run : Run) (sender reader tick : ℕ) (changes : List Changed) → changes ≡ [] → AreTold run sender reader tick tick changes
@@ -116,6 +119,7 @@ told-nothing run sender reader tick changes none =
     subst (AreTold run sender reader tick tick) (sym none)
     (record {
       within = λ k d small. absurd (omega (arith, small));
+      rises = λ _ j k d l small. absurd (omega (arith, small));
       among = λ share k d small. absurd (omega (arith, small));
       words = λ k d small. absurd (omega (arith, small));
       others = λ net owned read missing. still-empty (value run.design net) tick tick (omega arith);

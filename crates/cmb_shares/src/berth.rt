@@ -11,6 +11,10 @@ use std::marker::Model;
 use std::mem::replace;
 use std::sync::Mutex;
 
+// Where so many looks of other threads in a row found the only share as it was, its thread may have lost its processor.
+// Before that it is left alone: they all make its text, and its words are in its own processor's cache.
+const PATIENCE: u32 = 32;
+
 /// A share that made its windows up to a tick, and receives from all shares that own what it is given.
 #[derive(Drop)]
 pub struct Resting<'a, T: ShareRun> {
@@ -41,6 +45,9 @@ pub enum Process<'a, T: ShareRun> {
 #[derive(Drop)]
 pub struct Berth<'a, T: ShareRun> {
     process: Option<Process<'a, T>>,
+    /// How many looks of other threads in a row found it as it was, and how many have to.
+    looks: u32,
+    patience: u32,
 }
 
 /// A berth for each share. Errors: memory was refused.
@@ -50,10 +57,15 @@ pub(crate) fn berths_of<'a, T: ShareRun>(
 ) -> Result<Vec<Mutex<Berth<'a, T>>>, AllocError>
     requires covers { All (λ station. Covers T.run station.number station.senders) stations.items }
 {
+    let patience = if stations.len() == 1 { PATIENCE } else { 0 };
     let mut berths = Vec::new(alloc);
     for station in stations {
         let process = Some(Process::Resting(Resting { station }));
-        berths.push(Mutex::new(Berth { process }))?;
+        berths.push(Mutex::new(Berth {
+            process,
+            looks: 0,
+            patience,
+        }))?;
     }
     Ok(berths)
 }
@@ -137,7 +149,14 @@ impl<'a, T: ShareRun> Berth<'a, T> {
         if matches!(self.look(), Next::Awaited) {
             return false;
         }
+        self.looks = 0;
         self.make_window();
         true
+    }
+
+    /// The same for another thread than its own. The only share is left to its own one, unless that seems to be away.
+    pub(crate) fn help(&mut self) -> bool {
+        self.looks = self.looks.saturating_add(1);
+        self.looks > self.patience && self.go_on()
     }
 }

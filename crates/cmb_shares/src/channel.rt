@@ -90,7 +90,7 @@ pub(crate) fn channel<T: ShareRun>(
     ensures inlet { IfOk result (λ ends. ends.1 ≡ greeting sender reader) }
 {
     let (mut outlet, mut inlet) = RingBuffer::with_protocol::<Global, InOrder<T>>(alloc, room)?;
-    outlet.push_reserved(Message::greeting(alloc, sender, reader));
+    outlet.push_reserved(Message::greeting(sender, reader, Vec::new(alloc)));
     inlet.slots_beside(&mut outlet);
     drop(inlet.pop_known());
     Ok((Outlet { ring: outlet }, Inlet { ring: inlet }))

@@ -3,6 +3,7 @@
 use crate::desk::{Desk, Job};
 use crate::message::Message;
 use crate::share_run::ShareRun;
+use crate::shelf::Shelf;
 use crate::stages::{Draft, Free, Text};
 use std::alloc::{AllocError, Global};
 use std::sync::{Mutex, Wait};
@@ -10,20 +11,21 @@ use std::sync::{Mutex, Wait};
 // It looks for a window at one of so many calls alone: all threads that wait look at the same desk.
 const LOOKS: u32 = 8;
 
-/// The texts of windows, in any order, until the calling thread takes them.
-pub type Shelf<T> = Mutex<Vec<Text<T>>>;
-
 /// A thread's part in making the text: it takes a window from the desk, makes its text piece by piece, and puts that on
 /// the shelf.
 #[derive(Drop)]
 pub struct Clerk<'a, 'd, T: ShareRun> {
     alloc: Global,
     desk: &'d Mutex<Desk<T>>,
-    shelf: &'d Shelf<T>,
+    shelf: &'d Mutex<Shelf<T>>,
     /// The text that it is at. There is none once memory was refused or the desk was closed.
     draft: Option<Draft<'a, T>>,
     /// Messages whose room goes back.
     spent: Vec<Message<T>>,
+    /// Room for a text.
+    room: Vec<u8>,
+    /// Whether there were texts enough when it looked last.
+    is_ahead: bool,
     looks: u32,
 }
 
@@ -33,7 +35,7 @@ impl<'a, 'd, T: ShareRun> Clerk<'a, 'd, T> {
         alloc: Global,
         free: Free<'a, T>,
         desk: &'d Mutex<Desk<T>>,
-        shelf: &'d Shelf<T>,
+        shelf: &'d Mutex<Shelf<T>>,
     ) -> Clerk<'a, 'd, T> {
         Clerk {
             alloc,
@@ -41,6 +43,8 @@ impl<'a, 'd, T: ShareRun> Clerk<'a, 'd, T> {
             shelf,
             draft: Some(Draft::new(free)),
             spent: Vec::new(alloc),
+            room: Vec::new(alloc),
+            is_ahead: false,
             looks: 0,
         }
     }
@@ -64,8 +68,29 @@ impl<'a, 'd, T: ShareRun> Clerk<'a, 'd, T> {
         self.looks % LOOKS != 0 && !self.is_busy()
     }
 
+    // Puts a text on the shelf, and takes room for another one. Errors: memory was refused.
+    fn put<R: Wait>(&mut self, rt: &R, text: Text<T>) -> Result<(), AllocError> {
+        let mut shelf = self.shelf.lock(rt);
+        self.room = shelf.put(text)?;
+        self.is_ahead = shelf.is_full();
+        Ok(())
+    }
+
+    // Whether there are still texts enough, where there were.
+    fn stays_ahead(&mut self) -> bool {
+        if self.is_ahead {
+            if let Some(shelf) = self.shelf.try_lock() {
+                self.is_ahead = shelf.is_full();
+            }
+        }
+        self.is_ahead
+    }
+
     // The next window, if it has come and nobody else is at the desk.
     fn take_job(&mut self) -> Result<Option<Job<T>>, AllocError> {
+        if self.stays_ahead() {
+            return Ok(None);
+        }
         match self.desk.try_lock() {
             Some(mut desk) => desk.take(&mut self.spent),
             None => Ok(None),
@@ -86,20 +111,17 @@ impl<'a, 'd, T: ShareRun> Clerk<'a, 'd, T> {
             return Ok(false);
         };
         let draft = self.take_draft()?;
-        let Some(begun) = draft.begin(job) else {
-            return Err(AllocError);
-        };
-        self.draft = Some(begun);
+        self.draft = Some(draft.begin(job, &mut self.spent)?);
         Ok(true)
     }
 
     // Goes on by a piece with the text that it is at. Errors: memory was refused.
     fn write<R: Wait>(&mut self, rt: &R) -> Result<(), AllocError> {
         let draft = self.take_draft()?;
-        let (draft, text) = draft.go_on(self.alloc, &mut self.spent)?;
+        let (draft, text) = draft.go_on(self.alloc, &mut self.spent, &mut self.room)?;
         self.draft = Some(draft);
         if let Some(text) = text {
-            self.shelf.lock(rt).push(text)?;
+            self.put(rt, text)?;
         }
         Ok(())
     }

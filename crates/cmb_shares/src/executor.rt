@@ -38,10 +38,10 @@ impl<'a, 'd, T: ShareRun> Executor<'a, 'd, T> {
         }
     }
 
-    // Goes on with the share of a place by a window, unless it would have to wait or another thread is at it. Says
-    // whether it did so.
-    fn visit(&self, place: usize) -> bool {
-        let Some(berth) = self.berths.get(place) else {
+    // Goes on with its own share, if it has one, by a window, unless that would have to wait or another thread is at it.
+    // Says whether it did so.
+    fn visit(&self) -> bool {
+        let Some(berth) = self.berths.get(self.home) else {
             return false;
         };
         match berth.try_lock() {
@@ -61,14 +61,19 @@ impl<'a, 'd, T: ShareRun> Executor<'a, 'd, T> {
             return false;
         }
         let place = self.home.wrapping_add(self.looks as usize) % count;
-        self.visit(place)
+        let Some(berth) = self.berths.get(place) else {
+            return false;
+        };
+        match berth.try_lock() {
+            Some(mut berth) => berth.help(),
+            None => false,
+        }
     }
 
     // Goes on by a window of its own share, by a piece of a text or by another's window. Says whether there was
     // anything to do.
     fn work<R: Wait>(&mut self, rt: &R) -> bool {
-        let home = self.home;
-        if self.visit(home) {
+        if self.visit() {
             self.looks = 0;
             self.clerk.keep_up(rt);
             return true;

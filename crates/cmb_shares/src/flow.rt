@@ -3,20 +3,20 @@
 ghost use Rattle.std.specs.Prelude.{◌≡◌, IfOk, IfSome};
 ghost use Rattle.cmb_shares.specs.Inner.Runs.{subject_in};
 
-use crate::clerk::Shelf;
 use crate::executor::Executor;
 use crate::share_run::ShareRun;
+use crate::shelf::Shelf;
 use crate::stages::Text;
 use cmb_dump_stream::{TextBuffer, TextMaker};
 use std::alloc::AllocError;
 use std::marker::Model;
-use std::sync::Wait;
+use std::sync::{Mutex, Wait};
 
 /// Takes the texts of windows in their order, and is at work until they have come.
 #[derive(Drop)]
 pub(crate) struct Flow<'a, 'd, T: ShareRun, R> {
     rt: &'d R,
-    shelf: &'d Shelf<T>,
+    shelf: &'d Mutex<Shelf<T>>,
     executor: Executor<'a, 'd, T>,
     /// The tick up to which texts were taken.
     clock: u32,
@@ -31,23 +31,11 @@ impl<'a, 'd, T: ShareRun, R> Model for Flow<'a, 'd, T, R> {
     ghost view = { λ f. record { subject = subject_in T.run; clock = f.clock } };
 }
 
-// Takes one of some texts out that begins at a tick, if there is one.
-fn text_from<T: ShareRun>(texts: &mut Vec<Text<T>>, from: u32) -> Option<Text<T>>
-    ensures { IfSome result (λ text. text.from ≡ from) }
-{
-    for place in 0..texts.len() {
-        if texts[place].from == from {
-            return Some(texts.swap_remove(place));
-        }
-    }
-    None
-}
-
 impl<'a, 'd, T: ShareRun, R: Wait> Flow<'a, 'd, T, R> {
     /// Goes on from tick 1.
     pub(crate) fn new(
         rt: &'d R,
-        shelf: &'d Shelf<T>,
+        shelf: &'d Mutex<Shelf<T>>,
         executor: Executor<'a, 'd, T>,
     ) -> Flow<'a, 'd, T, R>
         ensures subject { result.subject ≡ subject_in T.run }
@@ -66,8 +54,16 @@ impl<'a, 'd, T: ShareRun, R: Wait> Flow<'a, 'd, T, R> {
         ensures { IfSome result (λ text. text.from ≡ from) }
     {
         match self.shelf.try_lock() {
-            Some(mut shelf) => text_from(&mut shelf, from),
+            Some(mut shelf) => shelf.take(from),
             None => None,
+        }
+    }
+
+    // Gives the room of a text back.
+    fn give_back(&self, room: Vec<u8>) {
+        match self.shelf.try_lock() {
+            Some(mut shelf) => shelf.give_back(room),
+            None => drop(room),
         }
     }
 
@@ -100,6 +96,11 @@ impl<'a, 'd, T: ShareRun, R: Wait> TextMaker for Flow<'a, 'd, T, R> {
         };
         let Text { upto, mut text, .. } = text;
         self.clock = upto;
-        kept.take_text(&mut text, upto).and(Ok(self))
+        let Ok(()) = kept.take_text(&mut text, upto) else {
+            drop((self, text));
+            return Err(AllocError);
+        };
+        self.give_back(text);
+        Ok(self)
     }
 }

@@ -16,12 +16,15 @@ mod message;
 pub mod opening;
 mod part;
 mod share_run;
+mod shelf;
 mod simulator;
 mod stages;
 mod station;
 mod stations;
+pub mod team;
 pub mod text;
 
 pub use costs::costs_of;
 pub use opening::Shares;
+pub use team::write_team;
 pub use text::write_shares;

@@ -8,7 +8,6 @@ ghost use Rattle.cmb_shares.specs.Inner.Messages.{IsMessage};
 use crate::share_run::ShareRun;
 use cmb_words::Changed;
 use rtrb::Protocol;
-use std::alloc::Global;
 use std::marker::PhantomData;
 
 /// From which share a message is, to which, and of which ticks: from `from` on below `upto`.
@@ -43,17 +42,19 @@ impl<T: ShareRun> Message<T> {
         }
     }
 
-    /// The first message of a channel. It is of no tick.
-    pub(crate) fn greeting(alloc: Global, sender: u32, reader: u32) -> Message<T>
+    /// The first message of a channel, with such room. It is of no tick.
+    pub(crate) fn greeting(sender: u32, reader: u32, room: Vec<Changed>) -> Message<T>
         ensures { result.envelope ≡ greeting sender reader }
     {
+        let mut room = room;
+        room.clear();
         let envelope = Envelope {
             sender,
             reader,
             from: 1,
             upto: 1,
         };
-        Message::new(envelope, Vec::new(alloc))
+        Message::new(envelope, room)
     }
 }
 

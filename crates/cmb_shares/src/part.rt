@@ -5,11 +5,12 @@ ghost use Rattle.cmb_shares.specs.Inner.Runs.{subject_in};
 ghost use Rattle.cmb_shares.specs.Inner.Texts.{IsOf};
 
 use crate::berth::Berth;
-use crate::clerk::{Clerk, Shelf};
+use crate::clerk::Clerk;
 use crate::desk::Desk;
 use crate::executor::Executor;
 use crate::flow::Flow;
 use crate::share_run::ShareRun;
+use crate::shelf::Shelf;
 use crate::stages::Free;
 use cmb_design_model::Design;
 use cmb_dump::Shown;
@@ -26,7 +27,7 @@ pub struct Part<'a, 'd, T: ShareRun> {
     shown: Shown<'a>,
     berths: &'d [Mutex<Berth<'a, T>>],
     desk: &'d Mutex<Desk<T>>,
-    shelf: &'d Shelf<T>,
+    shelf: &'d Mutex<Shelf<T>>,
     home: usize,
 }
 
@@ -42,19 +43,20 @@ impl<'a, 'd, T: ShareRun> Model for Part<'a, 'd, T> {
     ghost invariant = { λ part. IsOf T.run part.design.now part.shown };
 }
 
-/// A part for each share. Errors: memory was refused.
+/// So many parts, of which each of the first ones has a share of its own. Errors: memory was refused.
 pub(crate) fn parts_of<'a, 'd, T: ShareRun>(
     alloc: Global,
     design: &'a Design,
     shown: Shown<'a>,
     berths: &'d [Mutex<Berth<'a, T>>],
     desk: &'d Mutex<Desk<T>>,
-    shelf: &'d Shelf<T>,
+    shelf: &'d Mutex<Shelf<T>>,
+    count: usize,
 ) -> Result<Vec<Part<'a, 'd, T>>, AllocError>
     requires { IsOf T.run design.now shown }
 {
     let mut parts = Vec::new(alloc);
-    for home in 0..berths.len() {
+    for home in 0..count {
         parts.push(Part {
             alloc,
             design,

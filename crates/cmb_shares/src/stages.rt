@@ -17,6 +17,7 @@ use cmb_dump::{Dump, Shown};
 use cmb_words::Changed;
 use std::alloc::{AllocError, Global};
 use std::marker::{Model, PhantomData};
+use std::mem::{replace, swap};
 
 /// A dump, and a buffer for the changes of a window by rising number.
 #[derive(Drop)]
@@ -157,15 +158,63 @@ impl<'a, T: ShareRun> Free<'a, T> {
         Ok(Free { tools, gathered })
     }
 
-    /// Begins the text of a window.
-    pub(crate) fn begin(self, job: Job<T>) -> Stage<'a, T> {
+    // Begins the text of a window of which one share sent, the only one: nothing is to be put together. The message is
+    // spent. Errors: memory was refused.
+    fn begin_alone(
+        self,
+        job: Job<T>,
+        spent: &mut Vec<Message<T>>,
+    ) -> Result<Stage<'a, T>, AllocError>
+        requires { length job.parts.items ≡ 1 }
+    {
+        let Free {
+            mut tools,
+            gathered,
+        } = self;
+        let Job {
+            from,
+            upto,
+            mut parts,
+        } = job;
+        let message = parts.swap_remove(0);
+        let Message {
+            envelope,
+            mut changes,
+            ..
+        } = message;
+        swap(&mut tools.all, &mut changes);
+        parts.push_reserved(Message::greeting(envelope.sender, envelope.reader, changes));
+        *spent = parts;
+        match tools.begin(from, upto) {
+            Ok(tools) => Ok(Stage::Writing(Writing {
+                tools,
+                gathered,
+                from,
+                upto,
+            })),
+            Err(error) => {
+                drop(gathered);
+                Err(error)
+            }
+        }
+    }
+
+    /// Begins the text of a window. What one share sent alone is spent. Errors: memory was refused.
+    pub(crate) fn begin(
+        self,
+        job: Job<T>,
+        spent: &mut Vec<Message<T>>,
+    ) -> Result<Stage<'a, T>, AllocError> {
+        if job.parts.len() == 1 {
+            return self.begin_alone(job, spent);
+        }
         let Free { tools, gathered } = self;
-        Stage::Gathering(Gathering {
+        Ok(Stage::Gathering(Gathering {
             tools,
             gathered,
             job,
             place: 0,
-        })
+        }))
     }
 }
 
@@ -242,6 +291,7 @@ impl<'a, T: ShareRun> Writing<'a, T> {
     pub(crate) fn go_on(
         self,
         alloc: Global,
+        room: &mut Vec<u8>,
     ) -> Result<(Stage<'a, T>, Option<Text<T>>), AllocError> {
         let Writing {
             mut tools,
@@ -262,8 +312,8 @@ impl<'a, T: ShareRun> Writing<'a, T> {
             });
             return Ok((stage, None));
         }
-        let mut text = Vec::new(alloc);
-        tools.dump.swap_text(&mut text);
+        tools.dump.swap_text(room);
+        let text = replace(room, Vec::new(alloc));
         let stage = Stage::Free(Free { tools, gathered });
         let text = Text {
             from,
@@ -281,12 +331,13 @@ impl<'a, T: ShareRun> Stage<'a, T> {
         self,
         alloc: Global,
         spent: &mut Vec<Message<T>>,
+        room: &mut Vec<u8>,
     ) -> Result<(Stage<'a, T>, Option<Text<T>>), AllocError> {
         match self {
             Stage::Free(it) => Ok((Stage::Free(it), None)),
             Stage::Gathering(it) => Ok((it.go_on(spent), None)),
             Stage::Taking(it) => Ok((it.go_on()?, None)),
-            Stage::Writing(it) => it.go_on(alloc),
+            Stage::Writing(it) => it.go_on(alloc, room),
         }
     }
 }
@@ -307,13 +358,17 @@ impl<'a, T: ShareRun> Draft<'a, T> {
         }
     }
 
-    /// Begins the text of a window, unless one is begun.
-    pub(crate) fn begin(self, job: Job<T>) -> Option<Draft<'a, T>> {
+    /// Begins the text of a window. Errors: memory was refused, or one is begun.
+    pub(crate) fn begin(
+        self,
+        job: Job<T>,
+        spent: &mut Vec<Message<T>>,
+    ) -> Result<Draft<'a, T>, AllocError> {
         match self.stage {
-            Stage::Free(free) => Some(Draft {
-                stage: free.begin(job),
+            Stage::Free(free) => Ok(Draft {
+                stage: free.begin(job, spent)?,
             }),
-            Stage::Gathering(_) | Stage::Taking(_) | Stage::Writing(_) => None,
+            Stage::Gathering(_) | Stage::Taking(_) | Stage::Writing(_) => Err(AllocError),
         }
     }
 
@@ -322,8 +377,9 @@ impl<'a, T: ShareRun> Draft<'a, T> {
         self,
         alloc: Global,
         spent: &mut Vec<Message<T>>,
+        room: &mut Vec<u8>,
     ) -> Result<(Draft<'a, T>, Option<Text<T>>), AllocError> {
-        let (stage, text) = self.stage.go_on(alloc, spent)?;
+        let (stage, text) = self.stage.go_on(alloc, spent, room)?;
         Ok((Draft { stage }, text))
     }
 }

@@ -12,6 +12,7 @@ use crate::desk::Desk;
 use crate::opening::Shares;
 use crate::part::{Part, parts_of};
 use crate::share_run::ShareRun;
+use crate::shelf::Shelf;
 use crate::stations::{connect_all, stations_of};
 use cmb_design_model::Design;
 use cmb_dump::Shown;
@@ -81,6 +82,7 @@ fn write_named<'a, T: ShareRun + Send + Sync, R: Threads + Wait + Sync, S: Sink>
     partition: &'a Partition,
     engines: Vec<ShareEngine<'a>>,
     windows: Windows,
+    threads: u32,
     sink: &mut S,
 ) -> Result<u64, WriteFault>
     requires room { S.failures sink.old < 2 ^ 64 - 1 }
@@ -103,8 +105,9 @@ fn write_named<'a, T: ShareRun + Send + Sync, R: Threads + Wait + Sync, S: Sink>
         return Err(WriteFault::Memory);
     };
     let desk = Mutex::new(Desk::new(alloc, windows, sources));
-    let shelf = Mutex::new(Vec::new(alloc));
-    let Ok(parts) = parts_of(alloc, design, shown, &berths, &desk, &shelf) else {
+    let shelf = Mutex::new(Shelf::new(alloc));
+    let count = threads.max(1) as usize;
+    let Ok(parts) = parts_of(alloc, design, shown, &berths, &desk, &shelf, count) else {
         return Err(WriteFault::Memory);
     };
     let desk_of_all = &desk;
@@ -137,6 +140,7 @@ pub fn write_shares<'a, R: Threads + Wait + Sync, S: Sink>(
     rt: &'a R,
     alloc: Global,
     shares: Shares<'a>,
+    threads: u32,
     sink: &mut S,
 ) -> Result<u64, WriteFault>
     requires { S.failures sink.old < 2 ^ 64 - 1 }
@@ -149,5 +153,7 @@ pub fn write_shares<'a, R: Threads + Wait + Sync, S: Sink>(
         engines,
         windows,
     } = shares;
-    write_named::<Brand, R, S>(rt, alloc, design, shown, partition, engines, windows, sink)
+    write_named::<Brand, R, S>(
+        rt, alloc, design, shown, partition, engines, windows, threads, sink,
+    )
 }

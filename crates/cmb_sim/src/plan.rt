@@ -72,9 +72,10 @@ fn engine_way<R: Threads + Sync>(
 ) -> Result<Way, AllocError>
     ensures { IfOk result (IsWayTo design.now design.now.netlist.names (vcd design.now) ⊥) }
 {
+    let threads = at_once(rt, threads);
     match partition_that_pays(rt, alloc, design, threads)? {
         Some(partition) => Ok(Way::Shares { partition, threads }),
-        None => Ok(Way::Engine(at_once(rt, threads))),
+        None => Ok(Way::Engine(threads)),
     }
 }
 

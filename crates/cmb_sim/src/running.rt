@@ -28,8 +28,7 @@ use cmb_netlist::PartCount;
 use cmb_run_free::{OpenGate, run_free_text};
 use cmb_run_rounds::run_rounds;
 use cmb_run_text::{Collector, vcd_text, vcd_text_of};
-use cmb_shares::{Shares, write_shares};
-use cmb_team::write_team;
+use cmb_shares::{Shares, write_shares, write_team};
 use std::alloc::{AllocError, Global};
 use std::sync::Wait;
 use std::thread::Threads;
@@ -139,7 +138,7 @@ fn write_by_shares<R: AllocGlobal + Threads + Wait + Sync, O: Sink>(
 {
     let alloc = rt.alloc();
     match Shares::open(rt, alloc, design, shown, partition)? {
-        Some(shares) => Ok(write_shares(rt, alloc, shares, out)?),
+        Some(shares) => Ok(write_shares(rt, alloc, shares, threads, out)?),
         None => Ok(write_team(rt, alloc, design, shown, threads, out)?),
     }
 }
@@ -171,9 +170,10 @@ fn write_part<R: AllocGlobal + Threads + Wait + Sync, O: Sink>(
     let alloc = rt.alloc();
     let design = &part.design;
     let shown: Shown<'_> = Some(&part.nets);
+    let threads = at_once(rt, threads);
     match partition_that_pays(rt, alloc, design, threads)? {
         Some(partition) => write_by_shares(rt, &partition, threads, design, shown, out),
-        None => Ok(write_team(rt, alloc, design, shown, at_once(rt, threads), out)?),
+        None => Ok(write_team(rt, alloc, design, shown, threads, out)?),
     }
 }
 

@@ -16,8 +16,7 @@ use std::thread::Threads;
 // takes longer than the engine takes for all nets.
 const MOST_BY_WORKERS: u64 = 262_144;
 
-// So many samples the flip-flops take at least, where shares pay: it stands for how much changes in a run, and for how
-// many batches go through the shares.
+// So many samples the flip-flops take at least, where shares pay: it stands for how much changes in a run.
 const LEAST_SAMPLES: u64 = 524_288;
 
 // So many times as many where there are two shares, which gain less on a team, and take longer to begin.
@@ -38,8 +37,8 @@ const MOST_SEEN: u32 = 25;
 // And in no less than the first of so many.
 const LEAST_SEEN: u32 = 50;
 
-// A run has so many threads for each processor at most. The threads of a team wait for one another's batches, so one
-// that waits for a processor holds up all; and of more shares than processors some would wait for others' threads.
+// A run has so many threads for each processor at most: of more shares than processors some would wait for others'
+// threads.
 const PER_PROCESSOR: usize = 1;
 
 // So many shares there are at least.
@@ -142,18 +141,17 @@ pub(crate) fn at_once<R: Threads>(rt: &R, threads: u32) -> u32
     }
 }
 
-/// The shares of a design's nets, where a thread for each pays: they are so many threads at most. Errors: memory was
+/// The shares of a design's nets, where a thread for each pays: they are so many at most. Errors: memory was
 /// refused.
 pub(crate) fn partition_that_pays<R: Threads + Sync>(
     rt: &R,
     alloc: Global,
     design: &Design,
-    threads: u32,
+    shares: u32,
 ) -> Result<Option<Partition>, AllocError>
     ensures partition { IfOk result (λ found. IfSome found (IsPartition design.now.netlist)) }
-    ensures few { IfOk result (λ found. IfSome found (λ partition. length partition.shares.items ≤ threads)) }
+    ensures few { IfOk result (λ found. IfSome found (λ partition. length partition.shares.items ≤ shares)) }
 {
-    let shares = at_once(rt, threads);
     if shares < LEAST_SHARES {
         return Ok(None);
     }

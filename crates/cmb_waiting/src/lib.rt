@@ -1,8 +1,6 @@
-//! How a thread waits for a bounded queue: it looks again, gives the processor away, and then sleeps.
+//! How a thread waits that has nothing to do: it looks again, gives the processor away, and then sleeps.
 #![tactic(auto)]
 
 pub mod idle;
-pub mod ring;
 
 pub use idle::Idle;
-pub use ring::{handed, taken};

@@ -9,9 +9,9 @@ use crate::checks::holds;
 use cmb_design_model::{Design, Settings};
 use cmb_dump::Shown;
 use cmb_dump_stream::write_stream;
-use cmb_graph_partition::{Partition, partition, structure_of};
+use cmb_graph_partition::{Partition, partition, structure_of, whole_partition};
 use cmb_io::{Limited, Room, WriteFault};
-use cmb_shares::{Shares, costs_of, write_shares};
+use cmb_shares::{Shares, costs_of, write_shares, write_team};
 use cmb_wave::Level;
 use std::alloc::{AllocError, Global};
 use std::sync::Wait;
@@ -44,17 +44,18 @@ const LINES: &str = "#0 0! x\" 0# #1 1\" #11 1! #31 1# #32 0\" #51 0! #71 0# #72
 /// The same up to tick 1, so without any window.
 const NO_WINDOW: &str = "#0 0! x\" 0# #1";
 
-/// Whether a sink with this much room takes just these bytes from the shares' threads, and they answer so.
+/// Whether a sink with this much room takes just these bytes from so many threads of the shares, and they answer so.
 fn takes<R: Threads + Wait + Sync>(
     rt: &R,
     alloc: Global,
     shares: Shares<'_>,
+    threads: u32,
     room: usize,
     bytes: &[u8],
     answer: Result<u64, WriteFault>,
 ) -> bool {
     let mut sink = Limited::new(alloc, room);
-    let found = write_shares(rt, alloc, shares, &mut sink);
+    let found = write_shares(rt, alloc, shares, threads, &mut sink);
     found == answer && sink.bytes.as_slice() == bytes
 }
 
@@ -65,6 +66,7 @@ fn opens_and_takes<R: Threads + Wait + Sync>(
     design: &Design,
     shown: Shown<'_>,
     partition: &Partition,
+    threads: u32,
     room: usize,
     bytes: &[u8],
     answer: Result<u64, WriteFault>,
@@ -73,18 +75,20 @@ fn opens_and_takes<R: Threads + Wait + Sync>(
     requires shown { CanShow (nets_of design.now) (shown_by shown) }
 {
     match Shares::open(rt, alloc, design, shown, partition)? {
-        Some(shares) => Ok(takes(rt, alloc, shares, room, bytes, answer)),
+        Some(shares) => Ok(takes(rt, alloc, shares, threads, room, bytes, answer)),
         None => Ok(false),
     }
 }
 
-/// Whether the shares of a partition write this text, and a sink that fails after 17 bytes took the first 17 of it.
-fn is_text<R: Threads + Wait + Sync>(
+/// Whether so many threads of a partition's shares write this text, and a sink that fails after 17 bytes took the first
+/// 17 of it.
+fn is_text_by<R: Threads + Wait + Sync>(
     rt: &R,
     alloc: Global,
     design: &Design,
     shown: Shown<'_>,
     partition: &Partition,
+    threads: u32,
     text: &[u8],
 ) -> Result<bool, Fail>
     requires partition { IsPartition design.now.netlist partition.now }
@@ -100,11 +104,34 @@ fn is_text<R: Threads + Wait + Sync>(
             design,
             shown,
             partition,
+            threads,
             100_000,
             text,
             Ok(written),
-        )? && opens_and_takes(rt, alloc, design, shown, partition, 17, begun, broken_off)?,
+        )? && opens_and_takes(
+            rt, alloc, design, shown, partition, threads, 17, begun, broken_off,
+        )?,
     )
+}
+
+/// The same by as many threads as there are shares, by fewer and by more.
+fn is_text<R: Threads + Wait + Sync>(
+    rt: &R,
+    alloc: Global,
+    design: &Design,
+    shown: Shown<'_>,
+    partition: &Partition,
+    text: &[u8],
+) -> Result<bool, Fail>
+    requires partition { IsPartition design.now.netlist partition.now }
+    requires shown { CanShow (nets_of design.now) (shown_by shown) }
+{
+    for threads in 0..4 {
+        if !is_text_by(rt, alloc, design, shown, partition, threads, text)? {
+            return Ok(false);
+        }
+    }
+    Ok(true)
 }
 
 /// What the run of a design costs that has these four nets: the input `i`, the flip-flop `s`, which reads itself and so
@@ -238,6 +265,26 @@ fn is_as_of_one<R: Threads + Wait + Sync>(rt: &R, alloc: Global) -> Result<bool,
 #[test]
 fn many_windows(rt: HostRuntime) -> Result<(), Fail> {
     holds(&rt, is_as_of_one(&rt, rt.alloc())?);
+    Ok(())
+}
+
+/// Whether the share that has all nets makes that text, and a team does.
+fn is_as_of_a_team<R: Threads + Wait + Sync>(rt: &R, alloc: Global) -> Result<bool, Fail> {
+    let design = counter(alloc, b"", 5_000)?;
+    let text = streamed(alloc, &design)?;
+    let whole = whole_partition(alloc, design.netlist())?;
+    let mut room = Room::new(alloc, 0)?;
+    let written = write_team(rt, alloc, &design, None, 3, &mut room)?;
+    Ok(
+        is_text(rt, alloc, &design, None, &whole, &text)?
+            && written == text.len() as u64
+            && room.bytes == text,
+    )
+}
+
+#[test]
+fn one_share(rt: HostRuntime) -> Result<(), Fail> {
+    holds(&rt, is_as_of_a_team(&rt, rt.alloc())?);
     Ok(())
 }
 

@@ -1,2 +1,0 @@
-pub mod BatchFacts
-pub mod OkFacts

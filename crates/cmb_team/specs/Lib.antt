@@ -1,2 +1,0 @@
--- what the functions inside the crate promise each other
-pub mod Inner
