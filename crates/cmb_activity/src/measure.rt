@@ -63,6 +63,7 @@ fn count_all(
         engine = engine.advance(upto, &mut changed)?;
         count_window(design, tallies, &changed, from, upto);
     }
+    drop(engine);
     Ok(())
 }
 

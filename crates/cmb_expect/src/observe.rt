@@ -95,6 +95,7 @@ fn find_all(
         follow(traces, &changed, upto);
         done = find(traces, probes, done, upto, found);
     }
+    drop(engine);
     Ok(())
 }
 

@@ -41,7 +41,9 @@ fn check_texts(
     ensures { AreCounted settings named (texts_in texts.now) result }
 {
     let design = spelled_design(alloc, texts, settings)?;
-    counts_of(alloc, &design, named)
+    let checked = counts_of(alloc, &design, named);
+    drop(design);
+    checked
 }
 
 /// Reads a netlist and the tables of delays, stimuli, clocks and first levels as `simulate` does, with the same faults,

@@ -3,6 +3,7 @@
 #![tactic(auto)]
 
 mod clocks;
+mod designs;
 mod kinds;
 pub mod laws;
 mod netlist;

@@ -2,12 +2,11 @@
 
 ghost use Rattle.std.specs.Prelude.{◌≡◌, ◌≤◌, [], false, length, string_bytes, IfOk, IfSome};
 
+use crate::designs::{Texts, read_design};
 use crate::shown::push_shown;
 use crate::slips::{Late, Silent, late_path, silent_inputs};
 use crate::words::Given;
-use cmb_bench::read_bench;
 use cmb_design_model::{Clock, Design};
-use cmb_design_tables::{read_clocks, read_delays, read_initial, read_stimuli};
 use cmb_netlist::{MAX_TEXT, Netlist};
 use std::alloc::{AllocError, Global};
 
@@ -20,21 +19,14 @@ fn fitting(text: &[u8]) -> Option<&[u8]>
 
 // The design that was given.
 fn design_of(alloc: Global, given: &Given<'_>) -> Option<Design> {
-    let delays = read_delays(alloc, fitting(given.delays)?).ok()?;
-    let stimuli = read_stimuli(alloc, fitting(given.stimuli)?).ok()?;
-    let clocks = read_clocks(alloc, fitting(given.clocks)?).ok()?;
-    let initial = read_initial(alloc, fitting(given.initial)?).ok()?;
-    let netlist = read_bench(alloc, fitting(given.bench)?).ok()?;
-    Design::new(
-        alloc,
-        netlist,
-        delays,
-        stimuli,
-        clocks,
-        initial,
-        given.settings,
-    )
-    .ok()
+    let texts = Texts {
+        bench: fitting(given.bench)?,
+        delays: fitting(given.delays)?,
+        stimuli: fitting(given.stimuli)?,
+        clocks: fitting(given.clocks)?,
+        initial: fitting(given.initial)?,
+    };
+    read_design(alloc, texts, given.settings).ok()
 }
 
 // Of inputs that are x throughout, the first is named.
@@ -94,6 +86,18 @@ fn push_slips(
     }
 }
 
+// The same of the design that was given, if it is one.
+fn push_given_slips(alloc: Global, text: &mut String, given: &Given<'_>) -> Result<(), AllocError> {
+    match design_of(alloc, given) {
+        Some(design) => {
+            let pushed = push_slips(alloc, text, given, &design);
+            drop(design);
+            pushed
+        }
+        None => Ok(()),
+    }
+}
+
 /// Notes on a run, each on a line of its own: which inputs are x at all ticks, and whether the common clock is too
 /// short for what leads from its flip-flops to its flip-flops. Without the whole texts there are none.
 pub fn run_notes(alloc: Global, given: &Given<'_>) -> Result<String, AllocError>
@@ -103,8 +107,6 @@ pub fn run_notes(alloc: Global, given: &Given<'_>) -> Result<String, AllocError>
     if !given.is_whole {
         return Ok(text);
     }
-    if let Some(design) = design_of(alloc, given) {
-        push_slips(alloc, &mut text, given, &design)?;
-    }
+    push_given_slips(alloc, &mut text, given)?;
     Ok(text)
 }

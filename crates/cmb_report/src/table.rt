@@ -2,8 +2,8 @@
 
 ghost use Rattle.std.specs.Prelude.{◌≤◌, length};
 
+use crate::designs::{Texts, read_design};
 use crate::words::Given;
-use cmb_bench::read_bench;
 use cmb_cli_line::Task;
 use cmb_design_model::{Design, DesignFault, Settings};
 use cmb_design_tables::{read_clocks, read_delays, read_initial, read_stimuli};
@@ -53,18 +53,18 @@ fn design_with(alloc: Global, given: &Given<'_>, table: Table) -> Result<Design,
     if given.bench.len() > MAX_TEXT {
         return Err(DesignFault::Memory);
     }
-    let delays = read_delays(alloc, text_if(given, Table::Delays, table))?;
-    let stimuli = read_stimuli(alloc, text_if(given, Table::Stimuli, table))?;
-    let clocks = read_clocks(alloc, text_if(given, Table::Clocks, table))?;
-    let initial = read_initial(alloc, text_if(given, Table::Initial, table))?;
-    let Ok(netlist) = read_bench(alloc, given.bench) else {
-        return Err(DesignFault::Memory);
+    let texts = Texts {
+        bench: given.bench,
+        delays: text_if(given, Table::Delays, table),
+        stimuli: text_if(given, Table::Stimuli, table),
+        clocks: text_if(given, Table::Clocks, table),
+        initial: text_if(given, Table::Initial, table),
     };
     let settings = Settings {
         clock: Some((0, 1)),
         ..given.settings
     };
-    Design::new(alloc, netlist, delays, stimuli, clocks, initial, settings)
+    read_design(alloc, texts, settings)
 }
 
 // The fault of a table's text alone.

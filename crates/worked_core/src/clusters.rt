@@ -9,7 +9,7 @@ use cmb_wave::{Change, Heard, Level, Piece, Promise, Wave};
 use std::alloc::Global;
 use std::process::Abort;
 use std::test::Fail;
-use worked_designs::{Inputs, bare, design_of, or_fail, sampled, spread};
+use worked_designs::{Inputs, bare, of_design, or_fail, sampled, spread};
 
 // The cluster with this number, where the design's nets are spread over so many.
 fn cluster_in(
@@ -33,8 +33,12 @@ fn cluster_of(
     clusters: u32,
     cluster: u32,
 ) -> Result<Cluster, Fail> {
-    let design = design_of(alloc, texts, settings)?;
-    cluster_in(rt, alloc, &design, clusters, cluster)
+    of_design(
+        alloc,
+        texts,
+        settings,
+        |design| cluster_in(rt, alloc, design, clusters, cluster),
+    )
 }
 
 /// Of the toggle, whose flip-flop samples at ticks 2, 6 and 10.

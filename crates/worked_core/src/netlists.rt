@@ -47,6 +47,7 @@ fn spelling(rt: HostRuntime) {
     holds(&rt, has_input(&netlist, 0));
     holds(&rt, has_gate(&netlist, 2, Kind::Nand, &[0, 1]));
     holds(&rt, has_gate(&netlist, 3, Kind::Buff, &[2]));
+    drop(netlist);
 }
 
 #[test]
@@ -56,6 +57,7 @@ fn flip_flops(rt: HostRuntime) {
     holds(&rt, matches!(netlist.driver(0), Driver::Flop(1)));
     holds(&rt, netlist.driver(0).pins() == &[1][..]);
     holds(&rt, has_gate(&netlist, 1, Kind::Not, &[0]));
+    drop(netlist);
 }
 
 #[test]
@@ -125,6 +127,7 @@ fn names_and_operands(rt: HostRuntime) -> Result<(), AllocError> {
     let netlist = netlist_of(&rt, rt.alloc(), b"INPUT(a)\nINPUT(b)\nINPUT = AND(a, b)\n");
     holds(&rt, netlist.len() == 3);
     holds(&rt, has_name(&netlist, 2, b"INPUT"));
+    drop(netlist);
     holds(&rt, outcome(rt.alloc(), b"y = FOO(") == (3, 1));
     Ok(())
 }
@@ -205,6 +208,7 @@ fn largest_netlist(rt: HostRuntime) -> Result<(), AllocError> {
     let netlist = netlist_of(&rt, rt.alloc(), text.as_bytes());
     holds(&rt, netlist.len() == 65_535);
     holds(&rt, netlist.number(&b"n65534"[..]) == Some(65_534));
+    drop(netlist);
     let text = inputs(rt.alloc(), 65_536)?;
     holds(&rt, text.len() < 1_000_000);
     holds(&rt, outcome(rt.alloc(), text.as_bytes()) == (7, 65_536));

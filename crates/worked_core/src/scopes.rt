@@ -3,8 +3,11 @@
 use crate::checks::{holds, same};
 use cmb_bench::read_bench;
 use cmb_io::Room;
-use cmb_run_scopes::{headers_of, write_scoped};
+use cmb_run_scopes::{Headers, headers_of, write_scoped};
+use std::alloc::Global;
+use std::process::Abort;
 use std::test::Fail;
+use worked_designs::or_fail;
 
 const NETLIST: &[u8] = b"INPUT(a)\nINPUT(cpu.led[0])\nINPUT(cpu.alu.x)\nINPUT(b..c)\n\
     OUTPUT(cpu.led[1])\ncpu.led[1] = NOT(a)\nrom.q[01] = BUFF(a)\n";
@@ -30,13 +33,20 @@ $upscope $end
 $enddefinitions $end
 ";
 
+// The headers of a text of all nets of the netlist.
+fn headers(rt: &impl Abort, alloc: Global) -> Result<Headers, Fail> {
+    let netlist = read_bench(alloc, NETLIST)?;
+    holds(rt, netlist.len() == 6);
+    let headers = headers_of(alloc, &netlist, &[0, 1, 2, 3, 4, 5]);
+    drop(netlist);
+    or_fail(headers)
+}
+
 // The header of a text is replaced, and what follows it stays.
 #[test]
 fn scopes(rt: HostRuntime) -> Result<(), Fail> {
     let alloc = rt.alloc();
-    let netlist = read_bench(alloc, NETLIST)?;
-    holds(&rt, netlist.len() == 6);
-    let headers = headers_of(alloc, &netlist, &[0, 1, 2, 3, 4, 5])?;
+    let headers = headers(&rt, alloc)?;
     holds(&rt, headers.scoped.as_slice() == DECLARATIONS.as_bytes());
     let text = Vec::from_elem(alloc, b'x', headers.plain.saturating_add(3))?;
     holds(&rt, headers.plain <= text.len());

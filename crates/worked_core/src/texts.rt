@@ -13,11 +13,18 @@ use cmb_wave::{Change, Level, Piece, Wave};
 use std::alloc::Global;
 use std::process::Abort;
 use std::test::Fail;
-use worked_designs::{bare, design_of, or_fail, sampled, text_of};
+use worked_designs::{bare, of_design, or_fail, sampled, text_of};
 
-// The design of a netlist without rows, whose flip-flops sample at ticks 2, 6, 10 and so on.
-fn design_up_to(alloc: Global, netlist: &[u8], horizon: u32) -> Result<Design, Fail> {
-    design_of(alloc, bare(netlist), sampled(horizon))
+// What is found out about a netlist without rows, whose flip-flops sample at ticks 2, 6, 10 and so on.
+fn of_bare<T: Drop, F: FnOnce(&Design) -> Result<T, Fail> + Drop>(
+    alloc: Global,
+    netlist: &[u8],
+    horizon: u32,
+    find: F,
+) -> Result<T, Fail>
+    requires { F.IsAlwaysCallable find }
+{
+    of_design(alloc, bare(netlist), sampled(horizon), find)
 }
 
 fn take(rt: &impl Abort, collector: &mut Collector, piece: &Piece) -> Result<u32, CollectFault> {
@@ -98,8 +105,12 @@ fn toggle_answers(rt: &impl Abort, alloc: Global, toggle: &mut Collector) -> Res
 }
 
 fn opened(alloc: Global) -> Result<Collector, Fail> {
-    let design = design_up_to(alloc, TOGGLE, 12)?;
-    or_fail(Collector::open(alloc, &design))
+    of_bare(
+        alloc,
+        TOGGLE,
+        12,
+        |design| or_fail(Collector::open(alloc, design)),
+    )
 }
 
 fn is_begun(rt: &impl Abort, toggle: &Collector) {
@@ -168,8 +179,13 @@ fn tells_inverted(rt: &impl Abort, alloc: Global, design: &Design) -> Result<(),
 // The text is that of the waves that were collected, whatever the design says.
 #[test]
 fn collector_tells_its_own(rt: HostRuntime) -> Result<(), Fail> {
-    let design = design_up_to(rt.alloc(), b"INPUT(a) OUTPUT(y) y = NOT(a)", 10)?;
-    tells_inverted(&rt, rt.alloc(), &design)
+    let alloc = rt.alloc();
+    of_bare(
+        alloc,
+        b"INPUT(a) OUTPUT(y) y = NOT(a)",
+        10,
+        |design| tells_inverted(&rt, alloc, design),
+    )
 }
 
 const TOGGLE_HEADER: &[u8] = b"$version cmbsim 1 $end
@@ -267,8 +283,8 @@ fn tells_parts(rt: &impl Abort, alloc: Global, design: &Design) -> Result<(), Fa
 
 #[test]
 fn text_in_parts(rt: HostRuntime) -> Result<(), Fail> {
-    let design = design_up_to(rt.alloc(), TOGGLE, 12)?;
-    tells_parts(&rt, rt.alloc(), &design)
+    let alloc = rt.alloc();
+    of_bare(alloc, TOGGLE, 12, |design| tells_parts(&rt, alloc, design))
 }
 
 // Lets what lies below a tick be forgotten, where all is known up to it and no wave has forgotten more.
@@ -355,8 +371,13 @@ fn tells_periods(rt: &impl Abort, alloc: Global, design: &Design) -> Result<(), 
 
 #[test]
 fn what_is_written_is_forgotten(rt: HostRuntime) -> Result<(), Fail> {
-    let design = design_up_to(rt.alloc(), TOGGLE, 4010)?;
-    tells_periods(&rt, rt.alloc(), &design)
+    let alloc = rt.alloc();
+    of_bare(
+        alloc,
+        TOGGLE,
+        4010,
+        |design| tells_periods(&rt, alloc, design),
+    )
 }
 
 fn collected_toggle(rt: &impl Abort, alloc: Global, design: &Design) -> Result<Collector, Fail> {
@@ -379,8 +400,8 @@ fn tells_whole(rt: &impl Abort, alloc: Global, design: &Design) -> Result<(), Fa
 
 #[test]
 fn text_of_toggle(rt: HostRuntime) -> Result<(), Fail> {
-    let design = design_up_to(rt.alloc(), TOGGLE, 12)?;
-    tells_whole(&rt, rt.alloc(), &design)
+    let alloc = rt.alloc();
+    of_bare(alloc, TOGGLE, 12, |design| tells_whole(&rt, alloc, design))
 }
 
 // The text of a net is its lines in that of all nets, by the code of the first.
@@ -396,8 +417,8 @@ fn tells_second(rt: &impl Abort, alloc: Global, design: &Design) -> Result<(), F
 
 #[test]
 fn text_of_a_chosen_net(rt: HostRuntime) -> Result<(), Fail> {
-    let design = design_up_to(rt.alloc(), TOGGLE, 12)?;
-    tells_second(&rt, rt.alloc(), &design)
+    let alloc = rt.alloc();
+    of_bare(alloc, TOGGLE, 12, |design| tells_second(&rt, alloc, design))
 }
 
 // Each net is collected in one piece without changes.
@@ -439,21 +460,26 @@ fn ends_with(
 // A table with a place for each net and tick would be too large.
 #[test]
 fn too_large(rt: HostRuntime) -> Result<(), Fail> {
-    let bench = inputs(rt.alloc(), 17)?;
-    let design = design_up_to(rt.alloc(), bench.as_bytes(), 1_000_000)?;
-    ends_with(&rt, rt.alloc(), &design, 561, SEVENTEEN_LEVELS)
+    let alloc = rt.alloc();
+    let bench = inputs(alloc, 17)?;
+    of_bare(
+        alloc,
+        bench.as_bytes(),
+        1_000_000,
+        |design| ends_with(&rt, alloc, design, 561, SEVENTEEN_LEVELS),
+    )
 }
 
 #[test]
 fn largest_netlist(rt: HostRuntime) -> Result<(), Fail> {
-    let bench = inputs(rt.alloc(), 65_535)?;
-    let design = design_up_to(rt.alloc(), bench.as_bytes(), 1)?;
-    ends_with(
-        &rt,
-        rt.alloc(),
-        &design,
-        2_133_620,
-        b"x0G'\nx1G'\n$end\n#1\n",
+    let alloc = rt.alloc();
+    let bench = inputs(alloc, 65_535)?;
+    let end = b"x0G'\nx1G'\n$end\n#1\n";
+    of_bare(
+        alloc,
+        bench.as_bytes(),
+        1,
+        |design| ends_with(&rt, alloc, design, 2_133_620, end),
     )
 }
 

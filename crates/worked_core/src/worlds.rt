@@ -14,7 +14,7 @@ use cmb_wave::{Heard, Level, Piece};
 use std::alloc::Global;
 use std::process::Abort;
 use std::test::Fail;
-use worked_designs::{bare, design_of, or_fail, sampled, spread, stimulated};
+use worked_designs::{bare, of_design, or_fail, sampled, spread, stimulated};
 
 // A world of this design whose nets are spread over so many clusters.
 fn opened(alloc: Global, design: &Design, clusters: u32) -> Result<World, Fail> {
@@ -23,8 +23,12 @@ fn opened(alloc: Global, design: &Design, clusters: u32) -> Result<World, Fail> 
 }
 
 fn toggle(alloc: Global, clusters: u32) -> Result<World, Fail> {
-    let design = design_of(alloc, bare(TOGGLE), sampled(12))?;
-    opened(alloc, &design, clusters)
+    of_design(
+        alloc,
+        bare(TOGGLE),
+        sampled(12),
+        |design| opened(alloc, design, clusters),
+    )
 }
 
 // A reply as a test says it: of a piece its net, its span, its number of changes and the first of them.
@@ -163,8 +167,7 @@ fn followed(alloc: Global) -> Result<World, Fail> {
         b"INPUT(a) q = DFF(a) y = BUFF(q)",
         b"tick,net,value\n0,a,0\n",
     );
-    let design = design_of(alloc, texts, sampled(12))?;
-    opened(alloc, &design, 3)
+    of_design(alloc, texts, sampled(12), |design| opened(alloc, design, 3))
 }
 
 #[test]
@@ -318,8 +321,12 @@ fn misled_in_two(rt: &impl Abort, alloc: Global, design: &Design) -> Result<Worl
 }
 
 fn misled_world(rt: &impl Abort, alloc: Global) -> Result<World, Fail> {
-    let design = design_of(alloc, bare(TOGGLE), sampled(12))?;
-    misled_in_two(rt, alloc, &design)
+    of_design(
+        alloc,
+        bare(TOGGLE),
+        sampled(12),
+        |design| misled_in_two(rt, alloc, design),
+    )
 }
 
 #[test]

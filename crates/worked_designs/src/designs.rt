@@ -3,7 +3,9 @@
 ghost use Rattle.std.specs.Prelude.{◌≤◌, IfOk, length};
 
 use cmb_bench::read_bench;
-use cmb_design_model::{Design, DesignFault, Settings};
+use cmb_design_model::{
+    ClockRows, DelayRows, Design, DesignFault, InitialRows, Settings, StimulusRows,
+};
 use cmb_design_tables::{read_clocks, read_delays, read_initial, read_stimuli};
 use cmb_netlist::{MAX_TEXT, Netlist};
 use cmb_wave::Level;
@@ -58,16 +60,14 @@ fn short(text: &[u8]) -> Result<&[u8], Fail>
     Ok(text)
 }
 
-// The design of a netlist with these tables.
-fn design_with(
+// The rows of these tables.
+fn read_tables(
     alloc: Global,
-    netlist: Netlist,
     delays: &[u8],
     stimuli: &[u8],
     clocks: &[u8],
     initial: &[u8],
-    settings: Settings,
-) -> Result<Design, DesignFault>
+) -> Result<(DelayRows, StimulusRows, ClockRows, InitialRows), DesignFault>
     requires delays { length delays.now ≤ MAX_TEXT }
     requires stimuli { length stimuli.now ≤ MAX_TEXT }
     requires clocks { length clocks.now ≤ MAX_TEXT }
@@ -77,7 +77,25 @@ fn design_with(
     let stimuli = read_stimuli(alloc, stimuli)?;
     let clocks = read_clocks(alloc, clocks)?;
     let initial = read_initial(alloc, initial)?;
-    Design::new(alloc, netlist, delays, stimuli, clocks, initial, settings)
+    Ok((delays, stimuli, clocks, initial))
+}
+
+// The design of a netlist with these tables.
+fn design_with(
+    alloc: Global,
+    netlist: Netlist,
+    tables: Result<(DelayRows, StimulusRows, ClockRows, InitialRows), DesignFault>,
+    settings: Settings,
+) -> Result<Design, DesignFault> {
+    match tables {
+        Ok((delays, stimuli, clocks, initial)) => {
+            Design::new(alloc, netlist, delays, stimuli, clocks, initial, settings)
+        }
+        Err(fault) => {
+            drop(netlist);
+            Err(fault)
+        }
+    }
 }
 
 /// The design of these texts, or why a netlist with these tables makes none.
@@ -91,11 +109,28 @@ pub fn judged_design(
     let clocks = short(inputs.clocks)?;
     let initial = short(inputs.initial)?;
     let netlist = read_bench(alloc, short(inputs.netlist)?)?;
-    Ok(design_with(alloc, netlist, delays, stimuli, clocks, initial, settings))
+    let tables = read_tables(alloc, delays, stimuli, clocks, initial);
+    Ok(design_with(alloc, netlist, tables, settings))
 }
 
 /// The design of these texts.
 pub fn design_of(alloc: Global, inputs: Inputs<'_>, settings: Settings) -> Result<Design, Fail> {
     let design = judged_design(alloc, inputs, settings)?;
     Ok(design?)
+}
+
+/// What is found out about the design of these texts. A function that owns a design is proved slowly, so the others
+/// are lent it.
+pub fn of_design<T: Drop, F: FnOnce(&Design) -> Result<T, Fail> + Drop>(
+    alloc: Global,
+    inputs: Inputs<'_>,
+    settings: Settings,
+    find: F,
+) -> Result<T, Fail>
+    requires { F.IsAlwaysCallable find }
+{
+    let design = design_of(alloc, inputs, settings)?;
+    let found = find(&design);
+    drop(design);
+    found
 }

@@ -9,7 +9,7 @@ pub mod outcomes;
 pub mod texts;
 
 pub use clusterings::spread;
-pub use designs::{Inputs, bare, design_of, judged_design, sampled, stimulated};
+pub use designs::{Inputs, bare, design_of, judged_design, of_design, sampled, stimulated};
 pub use netlists::{has_gate, has_input, has_name};
 pub use outcomes::or_fail;
 pub use texts::text_of;

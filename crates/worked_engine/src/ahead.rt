@@ -17,7 +17,7 @@ use cmb_words::Changed;
 use std::alloc::{AllocError, Global};
 use std::process::Abort;
 use std::test::Fail;
-use worked_designs::{Inputs, design_of};
+use worked_designs::{Inputs, of_design, or_fail};
 
 // The nets that cross: the flip-flops `a` and `b`. `m` is a gate.
 const CROSSING: [bool; 3] = [true, false, true];
@@ -25,27 +25,24 @@ const CROSSING: [bool; 3] = [true, false, true];
 // The place of tick 0, where a window ends at tick 21.
 const START: u32 = 43;
 
-/// The counter's design: its nets are `a`, `m` and `b`, by their numbers.
-fn counter(rt: &impl Abort, alloc: Global) -> Result<Design, Fail>
-    ensures nets { IfOk result (λ design. nets_of design ≡ 3) }
-    ensures horizon { IfOk result (λ design. design.horizon ≡ 100) }
-{
-    let inputs = Inputs {
+/// The counter's texts: its nets are `a`, `m` and `b`, by their numbers.
+fn counter() -> Inputs<'static> {
+    Inputs {
         netlist: b"OUTPUT(b)\na = DFF(m)\nm = NOT(b)\nb = DFF(a)\n",
         delays: b"by,name,delay\nnet,a,5\n",
         stimuli: b"",
         clocks: b"",
         initial: b"",
-    };
-    let settings = Settings {
-        horizon: 100,
-        clock: Some((0, 20)),
-        init: Zero,
-    };
-    let design = design_of(alloc, inputs, settings)?;
+    }
+}
+
+/// Ends the test unless a design has as many nets and ticks.
+fn is_counter(rt: &impl Abort, design: &Design)
+    ensures nets { nets_of design.now ≡ 3 }
+    ensures horizon { design.now.horizon ≡ 100 }
+{
     holds(rt, design.netlist().len() == 3);
     holds(rt, design.horizon() == 100);
-    Ok(design)
 }
 
 /// The engine of all nets, which gives the changes of the flip-flops ahead.
@@ -85,12 +82,12 @@ fn tell_first(
 }
 
 /// Whether the counter's first window is as it should be.
-fn is_told_first(alloc: Global, design: &Design) -> Result<bool, AllocError>
-    requires nets { nets_of design.now ≡ 3 }
-    requires horizon { design.now.horizon ≡ 100 }
-{
+fn is_told_first(rt: &impl Abort, alloc: Global, design: &Design) -> Result<bool, Fail> {
+    is_counter(rt, design);
     let engine = engine_of(alloc, design)?;
-    is_first_of(alloc, design, &engine)
+    let is_told = is_first_of(alloc, design, &engine);
+    drop(engine);
+    or_fail(is_told)
 }
 
 fn is_first_of(alloc: Global, design: &Design, engine: &ShareEngine<'_>) -> Result<bool, AllocError>
@@ -121,7 +118,18 @@ fn is_first(told: &[Changed]) -> bool {
 
 #[test]
 fn first_window(rt: HostRuntime) -> Result<(), Fail> {
-    let design = counter(&rt, rt.alloc())?;
-    holds(&rt, is_told_first(rt.alloc(), &design)?);
+    let alloc = rt.alloc();
+    let settings = Settings {
+        horizon: 100,
+        clock: Some((0, 20)),
+        init: Zero,
+    };
+    let is_told = of_design(
+        alloc,
+        counter(),
+        settings,
+        |design| is_told_first(&rt, alloc, design),
+    )?;
+    holds(&rt, is_told);
     Ok(())
 }

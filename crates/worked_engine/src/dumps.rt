@@ -1,11 +1,10 @@
 //! The text that a dump gave last.
 
 use crate::checks::holds;
-use crate::parts::two_parts;
+use crate::parts::of_two_parts;
 use cmb_design_model::Design;
 use cmb_dump::Dump;
 use std::alloc::Global;
-use std::process::Abort;
 use std::test::Fail;
 
 /// Whether the last line of a run up to tick 8 takes the place of what a list had, and the dump is left with nothing.
@@ -17,14 +16,10 @@ fn is_swapped(alloc: Global, design: &Design) -> Result<bool, Fail> {
     Ok(room.as_slice() == b"#8\n".as_slice() && dump.text().is_empty())
 }
 
-/// The same of the design of two parts.
-fn swaps(rt: &impl Abort, alloc: Global) -> Result<bool, Fail> {
-    let design = two_parts(rt, alloc)?;
-    is_swapped(alloc, &design)
-}
-
 #[test]
 fn text_is_swapped(rt: HostRuntime) -> Result<(), Fail> {
-    holds(&rt, swaps(&rt, rt.alloc())?);
+    let alloc = rt.alloc();
+    let swaps = of_two_parts(alloc, |design| is_swapped(alloc, design))?;
+    holds(&rt, swaps);
     Ok(())
 }

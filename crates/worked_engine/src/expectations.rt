@@ -1,10 +1,7 @@
 //! What is expected of a run.
 
-ghost use Rattle.std.specs.Prelude.{◌≡◌};
-ghost use Rattle.cmb_design_model.specs.Exact.{nets_of};
-
 use crate::checks::holds;
-use crate::parts::two_parts;
+use crate::parts::{are_two_parts, of_two_parts};
 use cmb_chosen::expected_differences;
 use cmb_design_model::{Design, Expected};
 use cmb_expect::{differing_rows, levels_found};
@@ -38,10 +35,8 @@ const ROWS: [Expected; 4] = [
 ];
 
 /// Whether the levels are found that the run has there, and the rows that differ are told.
-fn finds_four(alloc: Global, design: &Design) -> Result<bool, Fail>
-    requires nets { nets_of design.now ≡ 5 }
-    requires horizon { design.now.horizon ≡ 8 }
-{
+fn finds_four(rt: &impl Abort, alloc: Global, design: &Design) -> Result<bool, Fail> {
+    are_two_parts(rt, design);
     let found = levels_found(alloc, design, &ROWS)?;
     let told = differing_rows(alloc, design, &ROWS, &found)?;
     let levels = [Level::Zero, Level::One, Level::One, Level::X];
@@ -54,35 +49,25 @@ fn finds_four(alloc: Global, design: &Design) -> Result<bool, Fail>
 }
 
 /// Whether the same rows differ where only nets are simulated on which they depend.
-fn tells_four(alloc: Global, design: &Design) -> Result<bool, Fail>
-    requires nets { nets_of design.now ≡ 5 }
-    requires horizon { design.now.horizon ≡ 8 }
-{
+fn tells_four(rt: &impl Abort, alloc: Global, design: &Design) -> Result<bool, Fail> {
+    are_two_parts(rt, design);
     let told = expected_differences(alloc, design, &ROWS)?;
     let text = b"tick,net,expected,value\n6,z,1,0\n3,q,1,x\n";
     Ok(told.text.as_slice() == text.as_slice() && told.count == 2)
 }
 
-/// Whether the levels of four rows are found.
-fn four_are_found(rt: &impl Abort, alloc: Global) -> Result<bool, Fail> {
-    let design = two_parts(rt, alloc)?;
-    finds_four(alloc, &design)
-}
-
-/// Whether those of four rows are told that differ.
-fn four_are_told(rt: &impl Abort, alloc: Global) -> Result<bool, Fail> {
-    let design = two_parts(rt, alloc)?;
-    tells_four(alloc, &design)
-}
-
 #[test]
 fn levels_of_four_rows(rt: HostRuntime) -> Result<(), Fail> {
-    holds(&rt, four_are_found(&rt, rt.alloc())?);
+    let alloc = rt.alloc();
+    let are_found = of_two_parts(alloc, |design| finds_four(&rt, alloc, design))?;
+    holds(&rt, are_found);
     Ok(())
 }
 
 #[test]
 fn differences_of_four_rows(rt: HostRuntime) -> Result<(), Fail> {
-    holds(&rt, four_are_told(&rt, rt.alloc())?);
+    let alloc = rt.alloc();
+    let are_told = of_two_parts(alloc, |design| tells_four(&rt, alloc, design))?;
+    holds(&rt, are_told);
     Ok(())
 }

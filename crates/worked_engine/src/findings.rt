@@ -6,10 +6,15 @@ use cmb_design_model::Design;
 use std::alloc::{AllocError, Global};
 use std::process::Abort;
 use std::test::Fail;
-use worked_designs::{Inputs, bare, design_of, or_fail, sampled};
+use worked_designs::{Inputs, bare, of_design, or_fail, sampled};
 
 // The nets are a, b, c, y, z, s and t. y and z are a loop, b has a level, and t samples at tick 100 first.
-fn odd_nets(alloc: Global) -> Result<Design, Fail> {
+fn of_odd_nets<T: Drop, F: FnOnce(&Design) -> Result<T, Fail> + Drop>(
+    alloc: Global,
+    find: F,
+) -> Result<T, Fail>
+    requires { F.IsAlwaysCallable find }
+{
     let inputs = Inputs {
         stimuli: b"tick,net,value\n0,b,1\n",
         clocks: b"net,first,period\nt,100,5\n",
@@ -17,7 +22,7 @@ fn odd_nets(alloc: Global) -> Result<Design, Fail> {
             b"INPUT(a)\nINPUT(b)\nINPUT(c)\nOUTPUT(y)\ny = NAND(a, z)\nz = BUFF(y)\ns = DFF(y)\nt = DFF(s)\n",
         )
     };
-    design_of(alloc, inputs, sampled(100))
+    of_design(alloc, inputs, sampled(100), find)
 }
 
 // The nets that each finding names, the first so many of them.
@@ -51,14 +56,13 @@ fn is_named(
 
 #[test]
 fn found(rt: HostRuntime) -> Result<(), Fail> {
-    let design = odd_nets(rt.alloc())?;
-    all_named(&rt, rt.alloc(), &design)
+    let alloc = rt.alloc();
+    of_odd_nets(alloc, |design| all_named(&rt, alloc, design))
 }
 
 // All findings of the nets, the first two of each.
 fn two_of_each(alloc: Global) -> Result<Findings, Fail> {
-    let design = odd_nets(alloc)?;
-    or_fail(findings_of(alloc, &design, 2))
+    of_odd_nets(alloc, |design| or_fail(findings_of(alloc, design, 2)))
 }
 
 fn are_two_of_each(rt: &impl Abort, found: &Findings) {
@@ -83,8 +87,7 @@ fn told(alloc: Global, design: &Design) -> Result<Vec<u8>, AllocError> {
 }
 
 fn told_of_odd_nets(alloc: Global) -> Result<Vec<u8>, Fail> {
-    let design = odd_nets(alloc)?;
-    or_fail(told(alloc, &design))
+    of_odd_nets(alloc, |design| or_fail(told(alloc, design)))
 }
 
 #[test]

@@ -19,7 +19,7 @@ use cmb_words::Changed;
 use std::alloc::{AllocError, Global};
 use std::process::Abort;
 use std::test::Fail;
-use worked_designs::{design_of, stimulated, text_of};
+use worked_designs::{of_design, stimulated, text_of};
 
 /// How many ticks are simulated.
 pub const HORIZON: u32 = 10;
@@ -33,10 +33,12 @@ pub const Y: u16 = 1;
 // The place of tick 0, where a window ends at the horizon.
 const START: u32 = 54;
 
-/// The inverter's design.
-pub fn inverter(rt: &impl Abort, alloc: Global) -> Result<Design, Fail>
-    ensures nets { IfOk result (λ design. nets_of design ≡ 2) }
-    ensures horizon { IfOk result (λ design. design.horizon ≡ HORIZON) }
+/// What is found out about the inverter's design.
+pub fn of_inverter<T: Drop, F: FnOnce(&Design) -> Result<T, Fail> + Drop>(
+    alloc: Global,
+    find: F,
+) -> Result<T, Fail>
+    requires { F.IsAlwaysCallable find }
 {
     let inputs = stimulated(
         b"INPUT(a)\nOUTPUT(y)\ny = NOT(a)\n",
@@ -47,10 +49,16 @@ pub fn inverter(rt: &impl Abort, alloc: Global) -> Result<Design, Fail>
         clock: None,
         init: X,
     };
-    let design = design_of(alloc, inputs, settings)?;
+    of_design(alloc, inputs, settings, find)
+}
+
+/// Ends the test unless a design has as many nets and ticks.
+pub fn is_inverter(rt: &impl Abort, design: &Design)
+    ensures nets { nets_of design.now ≡ 2 }
+    ensures horizon { design.now.horizon ≡ HORIZON }
+{
     holds(rt, design.netlist().len() == 2);
     holds(rt, design.horizon() == HORIZON);
-    Ok(design)
 }
 
 /// The text of its run.
@@ -117,14 +125,14 @@ fn advances(alloc: Global, design: &Design, changed: &mut Vec<Changed>) -> Resul
     let opens = engine.clock() == 1 && begins(design);
     let upto = engine.next_end();
     let last = engine.advance(upto, changed)?;
-    Ok(opens && last.clock() == HORIZON)
+    let ends = last.clock() == HORIZON;
+    drop(last);
+    Ok(opens && ends)
 }
 
 /// Whether the engine's only window is as it should be.
-fn goes_on(alloc: Global, design: &Design) -> Result<bool, Fail>
-    requires nets { nets_of design.now ≡ 2 }
-    requires horizon { design.now.horizon ≡ HORIZON }
-{
+fn goes_on(rt: &impl Abort, alloc: Global, design: &Design) -> Result<bool, Fail> {
+    is_inverter(rt, design);
     let mut changed = Vec::new(alloc);
     let is_whole = advances(alloc, design, &mut changed)?;
     Ok(is_whole && are_told(&changed))
@@ -169,13 +177,13 @@ fn are_narrow(
         return Ok(false);
     };
     let ends = last.clock() == HORIZON && changed.is_empty();
+    drop(last);
     Ok(begins && goes && ends)
 }
 
 /// The same.
-fn goes_on_narrowly(alloc: Global, design: &Design) -> Result<bool, Fail>
-    requires { design.now.horizon ≡ HORIZON }
-{
+fn goes_on_narrowly(rt: &impl Abort, alloc: Global, design: &Design) -> Result<bool, Fail> {
+    is_inverter(rt, design);
     let mut changed = Vec::new(alloc);
     let is_narrow = are_narrow(alloc, design, &mut changed)?;
     Ok(is_narrow)
@@ -199,43 +207,31 @@ fn is_broken_off(alloc: Global, design: &Design) -> Result<bool, Fail> {
     Ok(is_begun && answer == Err(WriteFault::Write { written: 17 }))
 }
 
-/// Whether the engine's windows are as they should be.
-fn is_simulated(rt: &impl Abort, alloc: Global) -> Result<bool, Fail> {
-    let design = inverter(rt, alloc)?;
-    goes_on(alloc, &design)
-}
-
-/// Whether narrow ones are.
-fn is_simulated_narrowly(rt: &impl Abort, alloc: Global) -> Result<bool, Fail> {
-    let design = inverter(rt, alloc)?;
-    goes_on_narrowly(alloc, &design)
-}
-
 /// Whether the text is told as it should be.
 fn told(alloc: Global, design: &Design) -> Result<bool, Fail> {
     Ok(is_written(alloc, design)? && is_broken_off(alloc, design)?)
 }
 
-/// Whether that of the inverter is.
-fn is_told(rt: &impl Abort, alloc: Global) -> Result<bool, Fail> {
-    let design = inverter(rt, alloc)?;
-    told(alloc, &design)
-}
-
 #[test]
 fn one_window(rt: HostRuntime) -> Result<(), Fail> {
-    holds(&rt, is_simulated(&rt, rt.alloc())?);
+    let alloc = rt.alloc();
+    let is_simulated = of_inverter(alloc, |design| goes_on(&rt, alloc, design))?;
+    holds(&rt, is_simulated);
     Ok(())
 }
 
 #[test]
 fn three_windows(rt: HostRuntime) -> Result<(), Fail> {
-    holds(&rt, is_simulated_narrowly(&rt, rt.alloc())?);
+    let alloc = rt.alloc();
+    let is_simulated = of_inverter(alloc, |design| goes_on_narrowly(&rt, alloc, design))?;
+    holds(&rt, is_simulated);
     Ok(())
 }
 
 #[test]
 fn text_of_an_engine(rt: HostRuntime) -> Result<(), Fail> {
-    holds(&rt, is_told(&rt, rt.alloc())?);
+    let alloc = rt.alloc();
+    let is_told = of_inverter(alloc, |design| told(alloc, design))?;
+    holds(&rt, is_told);
     Ok(())
 }

@@ -1,6 +1,6 @@
 //! A design of two parts that have nothing in common, and one of them alone.
 
-ghost use Rattle.std.specs.Prelude.{◌≡◌, IfOk};
+ghost use Rattle.std.specs.Prelude.{◌≡◌};
 ghost use Rattle.cmb_design_model.specs.Exact.{nets_of};
 
 use crate::checks::holds;
@@ -11,12 +11,15 @@ use cmb_wave::Level;
 use std::alloc::Global;
 use std::process::Abort;
 use std::test::Fail;
-use worked_designs::{Inputs, design_of, has_gate, has_input, has_name};
+use worked_designs::{Inputs, has_gate, has_input, has_name, of_design};
 
-/// The nets `a`, `b`, `y`, `z` and `q`, by their numbers. `y` is made of `a`, `z` of `b` with a delay of two ticks, and
-/// `q` samples `z` at ticks 3 and 7.
-pub fn two_parts(rt: &impl Abort, alloc: Global) -> Result<Design, Fail>
-    ensures { IfOk result (λ design. (nets_of design ≡ 5) × (design.horizon ≡ 8)) }
+/// What is found out about the design. Its nets are `a`, `b`, `y`, `z` and `q`, by their numbers. `y` is made of `a`,
+/// `z` of `b` with a delay of two ticks, and `q` samples `z` at ticks 3 and 7.
+pub fn of_two_parts<T: Drop, F: FnOnce(&Design) -> Result<T, Fail> + Drop>(
+    alloc: Global,
+    find: F,
+) -> Result<T, Fail>
+    requires { F.IsAlwaysCallable find }
 {
     let inputs = Inputs {
         netlist: b"INPUT(a)\nINPUT(b)\nOUTPUT(y)\nOUTPUT(z)\ny = NOT(a)\nz = NOT(b)\nq = DFF(z)\n",
@@ -30,10 +33,16 @@ pub fn two_parts(rt: &impl Abort, alloc: Global) -> Result<Design, Fail>
         clock: Some((3, 4)),
         init: Level::X,
     };
-    let design = design_of(alloc, inputs, settings)?;
+    of_design(alloc, inputs, settings, find)
+}
+
+/// Ends the test unless a design has as many nets and ticks.
+pub fn are_two_parts(rt: &impl Abort, design: &Design)
+    ensures nets { nets_of design.now ≡ 5 }
+    ensures horizon { design.now.horizon ≡ 8 }
+{
     holds(rt, design.netlist().len() == 5);
     holds(rt, design.horizon() == 8);
-    Ok(design)
 }
 
 /// Whether a netlist is that of `b`, `z` and `q` alone.
@@ -49,49 +58,52 @@ fn is_second_part(netlist: &Netlist) -> bool {
 }
 
 /// Whether the closure of `y` is `a` and `y`, and that of `q` is `b`, `z` and `q`.
-fn are_closures(alloc: Global, design: &Design) -> Result<bool, Fail>
-    requires { nets_of design.now ≡ 5 }
-{
+fn are_closures(rt: &impl Abort, alloc: Global, design: &Design) -> Result<bool, Fail> {
+    are_two_parts(rt, design);
     let first = closure(alloc, design.netlist(), &[2])?;
     let second = closure(alloc, design.netlist(), &[4])?;
     Ok(first.as_slice() == [0, 2].as_slice() && second.as_slice() == [1, 3, 4].as_slice())
 }
 
-/// The design of what `q` depends on.
-fn second_part(alloc: Global, design: &Design) -> Result<Design, Fail>
-    requires { nets_of design.now ≡ 5 }
+/// What is found out about the design of what `q` depends on, alone.
+pub fn of_second_part<T: Drop, F: FnOnce(&Design) -> Result<T, Fail> + Drop>(
+    rt: &impl Abort,
+    alloc: Global,
+    design: &Design,
+    find: F,
+) -> Result<T, Fail>
+    requires { F.IsAlwaysCallable find }
 {
+    are_two_parts(rt, design);
     let nets = closure(alloc, design.netlist(), &[4])?;
     let part = restrict(alloc, design, &nets)?;
-    Ok(part)
-}
-
-/// Whether the closures of two nets are as they should be.
-fn has_closures(rt: &impl Abort, alloc: Global) -> Result<bool, Fail> {
-    let design = two_parts(rt, alloc)?;
-    are_closures(alloc, &design)
-}
-
-/// The design of what `q` depends on, alone.
-pub fn part_alone(rt: &impl Abort, alloc: Global) -> Result<Design, Fail> {
-    let design = two_parts(rt, alloc)?;
-    second_part(alloc, &design)
+    let found = find(&part);
+    drop(part);
+    found
 }
 
 /// Whether it has the nets and the horizon that it should have.
-fn has_second_part(rt: &impl Abort, alloc: Global) -> Result<bool, Fail> {
-    let part = part_alone(rt, alloc)?;
-    Ok(is_second_part(part.netlist()) && part.horizon() == 8)
+fn has_second_part(rt: &impl Abort, alloc: Global, design: &Design) -> Result<bool, Fail> {
+    of_second_part(
+        rt,
+        alloc,
+        design,
+        |part| Ok(is_second_part(part.netlist()) && part.horizon() == 8),
+    )
 }
 
 #[test]
 fn what_nets_depend_on(rt: HostRuntime) -> Result<(), Fail> {
-    holds(&rt, has_closures(&rt, rt.alloc())?);
+    let alloc = rt.alloc();
+    let are_whole = of_two_parts(alloc, |design| are_closures(&rt, alloc, design))?;
+    holds(&rt, are_whole);
     Ok(())
 }
 
 #[test]
 fn design_of_a_part(rt: HostRuntime) -> Result<(), Fail> {
-    holds(&rt, has_second_part(&rt, rt.alloc())?);
+    let alloc = rt.alloc();
+    let is_whole = of_two_parts(alloc, |design| has_second_part(&rt, alloc, design))?;
+    holds(&rt, is_whole);
     Ok(())
 }

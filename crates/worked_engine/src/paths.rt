@@ -4,16 +4,17 @@ use crate::checks::same;
 use cmb_count::{Between, ClockPaths, Longest, longest_path, paths_by_clock, paths_of};
 use cmb_design_model::{Clock, Design};
 use std::alloc::Global;
+use std::process::Abort;
 use std::test::Fail;
-use worked_designs::{Inputs, bare, design_of, or_fail, sampled};
-
-fn longest_in(alloc: Global, design: Design, between: Between) -> Result<Longest, Fail> {
-    or_fail(longest_path(alloc, &design, between))
-}
+use worked_designs::{Inputs, bare, of_design, or_fail, sampled};
 
 fn longest(alloc: Global, inputs: Inputs<'_>, between: Between) -> Result<Longest, Fail> {
-    let design = design_of(alloc, inputs, sampled(100))?;
-    longest_in(alloc, design, between)
+    of_design(
+        alloc,
+        inputs,
+        sampled(100),
+        |design| or_fail(longest_path(alloc, design, between)),
+    )
 }
 
 fn path(net: usize, ticks: u64) -> Longest {
@@ -88,24 +89,29 @@ fn wanted_paths() -> [ClockPaths; 2] {
     ]
 }
 
+fn has_wanted_paths(rt: &impl Abort, alloc: Global, design: &Design) -> Result<(), Fail> {
+    let all = or_fail(paths_by_clock(alloc, design, 20))?;
+    same(rt, all.as_slice(), wanted_paths().as_slice());
+    let first = or_fail(paths_by_clock(alloc, design, 1))?;
+    same(rt, first.as_slice(), &wanted_paths()[..1]);
+    let clock = Clock {
+        first: 1,
+        period: 3,
+    };
+    let one = or_fail(paths_of(alloc, design, clock))?;
+    same(rt, one, wanted_paths()[1]);
+    Ok(())
+}
+
 #[test]
 fn paths_from_inputs_and_other_clocks(rt: HostRuntime) -> Result<(), Fail> {
     let alloc = rt.alloc();
-    let design = design_of(alloc, with_input(), sampled(100))?;
-    let all = or_fail(paths_by_clock(alloc, &design, 20))?;
-    same(&rt, all.as_slice(), wanted_paths().as_slice());
-    let first = or_fail(paths_by_clock(alloc, &design, 1))?;
-    same(&rt, first.as_slice(), &wanted_paths()[..1]);
-    let one = or_fail(paths_of(
+    of_design(
         alloc,
-        &design,
-        Clock {
-            first: 1,
-            period: 3,
-        },
-    ))?;
-    same(&rt, one, wanted_paths()[1]);
-    Ok(())
+        with_input(),
+        sampled(100),
+        |design| has_wanted_paths(&rt, alloc, design),
+    )
 }
 
 // A loop counts where a path leads to it and on to an output. The loop of y and w is reached by no input; z reads both.

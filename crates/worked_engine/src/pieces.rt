@@ -15,7 +15,7 @@ use std::alloc::{AllocError, Global};
 use std::fmt::Write;
 use std::process::Abort;
 use std::test::Fail;
-use worked_designs::{bare, design_of};
+use worked_designs::{bare, of_design};
 
 /// How many nets there are: more than those of two pieces.
 const NETS: u16 = 200;
@@ -23,24 +23,22 @@ const NETS: u16 = 200;
 /// How many ticks there are.
 const HORIZON: u32 = 10;
 
-/// A design of so many inputs.
-fn inputs(rt: &impl Abort, alloc: Global) -> Result<Design, Fail>
-    ensures nets { IfOk result (λ design. nets_of design ≡ NETS) }
-    ensures horizon { IfOk result (λ design. design.horizon ≡ HORIZON) }
-{
+/// A netlist of so many inputs.
+fn inputs(alloc: Global) -> Result<String, AllocError> {
     let mut netlist = String::new(alloc);
     for net in 0..NETS {
         write!(netlist, "INPUT(n{net})\n")?;
     }
-    let settings = Settings {
-        horizon: HORIZON,
-        clock: None,
-        init: Level::X,
-    };
-    let design = design_of(alloc, bare(netlist.as_bytes()), settings)?;
+    Ok(netlist)
+}
+
+/// Ends the test unless a design has so many nets and ticks.
+fn are_inputs(rt: &impl Abort, design: &Design)
+    ensures nets { nets_of design.now ≡ NETS }
+    ensures horizon { design.now.horizon ≡ HORIZON }
+{
     holds(rt, design.netlist().len() == NETS as usize);
     holds(rt, design.horizon() == HORIZON);
-    Ok(design)
 }
 
 /// All of these nets, which are 0 and from tick 6 on 1.
@@ -101,15 +99,28 @@ fn is_same(
 }
 
 /// Whether it is so of all nets and of three of them.
-fn are_same(rt: &impl Abort, alloc: Global) -> Result<bool, Fail> {
-    let design = inputs(rt, alloc)?;
-    let all = is_same(alloc, &design, None, 3)?;
-    let chosen = is_same(alloc, &design, Some(&[3, 100, 199]), 1)?;
+fn are_same(rt: &impl Abort, alloc: Global, design: &Design) -> Result<bool, Fail> {
+    are_inputs(rt, design);
+    let all = is_same(alloc, design, None, 3)?;
+    let chosen = is_same(alloc, design, Some(&[3, 100, 199]), 1)?;
     Ok(all && chosen)
 }
 
 #[test]
 fn window_in_pieces(rt: HostRuntime) -> Result<(), Fail> {
-    holds(&rt, are_same(&rt, rt.alloc())?);
+    let alloc = rt.alloc();
+    let netlist = inputs(alloc)?;
+    let settings = Settings {
+        horizon: HORIZON,
+        clock: None,
+        init: Level::X,
+    };
+    let is_same_text = of_design(
+        alloc,
+        bare(netlist.as_bytes()),
+        settings,
+        |design| are_same(&rt, alloc, design),
+    )?;
+    holds(&rt, is_same_text);
     Ok(())
 }

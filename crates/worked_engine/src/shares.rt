@@ -17,11 +17,18 @@ use std::alloc::{AllocError, Global};
 use std::sync::Wait;
 use std::test::Fail;
 use std::thread::Threads;
-use worked_designs::{Inputs, design_of, text_of};
+use worked_designs::{Inputs, of_design, or_fail, text_of};
 
-/// The nets `a`, `m` and `b`, by their numbers: two flip-flops that sample one another, `a` by an inverter (a Johnson
-/// counter of two bits), at ticks 10, 30, 50, 70 and 90.
-fn counter(alloc: Global, delays: &[u8], horizon: u32) -> Result<Design, Fail> {
+/// What is found out about a counter. Its nets are `a`, `m` and `b`, by their numbers: two flip-flops that sample one
+/// another, `a` by an inverter (a Johnson counter of two bits), at ticks 10, 30, 50, 70 and 90.
+fn of_counter<T: Drop, F: FnOnce(&Design) -> Result<T, Fail> + Drop>(
+    alloc: Global,
+    delays: &[u8],
+    horizon: u32,
+    find: F,
+) -> Result<T, Fail>
+    requires { F.IsAlwaysCallable find }
+{
     let inputs = Inputs {
         netlist: b"OUTPUT(b)\na = DFF(m)\nm = NOT(b)\nb = DFF(a)\n",
         delays,
@@ -34,7 +41,7 @@ fn counter(alloc: Global, delays: &[u8], horizon: u32) -> Result<Design, Fail> {
         clock: Some((10, 20)),
         init: Level::Zero,
     };
-    design_of(alloc, inputs, settings)
+    of_design(alloc, inputs, settings, find)
 }
 
 /// Of the counter up to tick 100. A flip-flop shows a level a tick after it sampled it, and the inverter a tick after
@@ -149,8 +156,12 @@ fn costs_of_four(alloc: Global) -> Result<Vec<u32>, Fail> {
         clock: Some((10, 20)),
         init: Level::Zero,
     };
-    let design = design_of(alloc, inputs, settings)?;
-    Ok(costs_of(alloc, &design, 100)?)
+    of_design(
+        alloc,
+        inputs,
+        settings,
+        |design| or_fail(costs_of(alloc, design, 100)),
+    )
 }
 
 // Each share has its own inputs, so these cost nothing. Each other net costs something. A flip-flop costs the more the
@@ -181,6 +192,19 @@ fn halves(alloc: Global, design: &Design) -> Result<Option<Partition>, AllocErro
     }
 }
 
+/// Whether two shares of a design make this text.
+fn make_text<R: Threads + Wait + Sync>(
+    rt: &R,
+    alloc: Global,
+    design: &Design,
+    text: &[u8],
+) -> Result<bool, Fail> {
+    match halves(alloc, design)? {
+        Some(partition) => is_text(rt, alloc, design, None, &partition, text),
+        None => Ok(false),
+    }
+}
+
 /// Whether two shares of the counter make the text of these lines.
 fn are_lines<R: Threads + Wait + Sync>(
     rt: &R,
@@ -189,11 +213,12 @@ fn are_lines<R: Threads + Wait + Sync>(
     lines: &str,
 ) -> Result<bool, Fail> {
     let text = text_of(alloc, "a m b", lines)?;
-    let design = counter(alloc, b"", horizon)?;
-    match halves(alloc, &design)? {
-        Some(partition) => is_text(rt, alloc, &design, None, &partition, text.as_bytes()),
-        None => Ok(false),
-    }
+    of_counter(
+        alloc,
+        b"",
+        horizon,
+        |design| make_text(rt, alloc, design, text.as_bytes()),
+    )
 }
 
 #[test]
@@ -233,15 +258,16 @@ fn are_lines_of_two<R: Threads + Wait + Sync>(
     }
 }
 
-/// The same of the counter.
-fn shows_flip_flops<R: Threads + Wait + Sync>(rt: &R, alloc: Global) -> Result<bool, Fail> {
-    let design = counter(alloc, b"", 100)?;
-    are_lines_of_two(rt, alloc, &design)
-}
-
 #[test]
 fn chosen_nets(rt: HostRuntime) -> Result<(), Fail> {
-    holds(&rt, shows_flip_flops(&rt, rt.alloc())?);
+    let alloc = rt.alloc();
+    let are_shown = of_counter(
+        alloc,
+        b"",
+        100,
+        |design| are_lines_of_two(&rt, alloc, design),
+    )?;
+    holds(&rt, are_shown);
     Ok(())
 }
 
@@ -252,19 +278,22 @@ fn streamed(alloc: Global, design: &Design) -> Result<Vec<u8>, Fail> {
     Ok(room.bytes)
 }
 
-/// Whether two shares of a long run of the counter make the same text as one engine does.
-fn is_as_of_one<R: Threads + Wait + Sync>(rt: &R, alloc: Global) -> Result<bool, Fail> {
-    let design = counter(alloc, b"", 5_000)?;
-    let text = streamed(alloc, &design)?;
-    match halves(alloc, &design)? {
-        Some(partition) => is_text(rt, alloc, &design, None, &partition, &text),
-        None => Ok(false),
-    }
+/// Whether two shares of a design make the same text as one engine does.
+fn is_as_of_one<R: Threads + Wait + Sync>(
+    rt: &R,
+    alloc: Global,
+    design: &Design,
+) -> Result<bool, Fail> {
+    let text = streamed(alloc, design)?;
+    make_text(rt, alloc, design, &text)
 }
 
+// The run is long.
 #[test]
 fn many_windows(rt: HostRuntime) -> Result<(), Fail> {
-    holds(&rt, is_as_of_one(&rt, rt.alloc())?);
+    let alloc = rt.alloc();
+    let is_same = of_counter(alloc, b"", 5_000, |design| is_as_of_one(&rt, alloc, design))?;
+    holds(&rt, is_same);
     Ok(())
 }
 
@@ -302,8 +331,7 @@ fn can_open<R: Threads + Wait + Sync>(
 
 /// Whether shares of the counter can be opened where its flip-flops have these delays.
 fn can_wait<R: Threads + Wait + Sync>(rt: &R, alloc: Global, delays: &[u8]) -> Result<bool, Fail> {
-    let design = counter(alloc, delays, 100)?;
-    can_open(rt, alloc, &design)
+    of_counter(alloc, delays, 100, |design| can_open(rt, alloc, design))
 }
 
 // What a flip-flop samples shows after more ticks than a window has.

@@ -8,7 +8,7 @@ ghost use Rattle.std.specs.Prelude.{◌≡◌, ◌<◌, IfOk};
 ghost use Rattle.cmb_design_model.specs.Exact.{nets_of};
 
 use crate::checks::holds;
-use crate::inverter::{A, HORIZON, Y, inverted, inverter};
+use crate::inverter::{A, HORIZON, Y, inverted, is_inverter, of_inverter};
 use cmb_design_model::Design;
 use cmb_dump::Dump;
 use cmb_wave::Level;
@@ -37,11 +37,11 @@ fn open<'a>(alloc: Global, design: &'a Design) -> Result<Dump<'a>, AllocError>
 }
 
 /// Two windows, one up to tick 5 and one from there on.
-fn in_two(alloc: Global, design: &Design, text: &mut Vec<u8>) -> Result<(), AllocError>
-    requires nets { nets_of design.now ≡ 2 }
-    requires horizon { design.now.horizon ≡ HORIZON }
+fn write_two(dump: &mut Dump<'_>, text: &mut Vec<u8>) -> Result<(), AllocError>
+    requires nets { nets_of dump.old.subject.design ≡ 2 }
+    requires horizon { dump.old.subject.design.horizon ≡ HORIZON }
+    requires clock { dump.old.clock ≡ 1 }
 {
-    let mut dump = open(alloc, design)?;
     text.extend_from_slice(dump.text())?;
     dump.window(&[turned(Y, Level::X, 60, Level::One)], 5)?;
     text.extend_from_slice(dump.text())?;
@@ -54,11 +54,11 @@ fn in_two(alloc: Global, design: &Design, text: &mut Vec<u8>) -> Result<(), Allo
 }
 
 /// Windows of one and of two ticks, and between them and after them ticks at which no net changes.
-fn with_rests(alloc: Global, design: &Design, text: &mut Vec<u8>) -> Result<(), AllocError>
-    requires nets { nets_of design.now ≡ 2 }
-    requires horizon { design.now.horizon ≡ HORIZON }
+fn write_rests(dump: &mut Dump<'_>, text: &mut Vec<u8>) -> Result<(), AllocError>
+    requires nets { nets_of dump.old.subject.design ≡ 2 }
+    requires horizon { dump.old.subject.design.horizon ≡ HORIZON }
+    requires clock { dump.old.clock ≡ 1 }
 {
-    let mut dump = open(alloc, design)?;
     text.extend_from_slice(dump.text())?;
     dump.window(&[turned(Y, Level::X, 63, Level::One)], 2)?;
     text.extend_from_slice(dump.text())?;
@@ -74,11 +74,31 @@ fn with_rests(alloc: Global, design: &Design, text: &mut Vec<u8>) -> Result<(), 
     text.extend_from_slice(dump.text())
 }
 
-/// Whether both ways give the text of the run.
-fn are_dumped(alloc: Global, design: &Design) -> Result<bool, Fail>
+/// Writes a run by two windows.
+fn in_two(alloc: Global, design: &Design, text: &mut Vec<u8>) -> Result<(), AllocError>
     requires nets { nets_of design.now ≡ 2 }
     requires horizon { design.now.horizon ≡ HORIZON }
 {
+    let mut dump = open(alloc, design)?;
+    let written = write_two(&mut dump, text);
+    drop(dump);
+    written
+}
+
+/// Writes it with rests.
+fn with_rests(alloc: Global, design: &Design, text: &mut Vec<u8>) -> Result<(), AllocError>
+    requires nets { nets_of design.now ≡ 2 }
+    requires horizon { design.now.horizon ≡ HORIZON }
+{
+    let mut dump = open(alloc, design)?;
+    let written = write_rests(&mut dump, text);
+    drop(dump);
+    written
+}
+
+/// Whether both ways give the text of the run.
+fn are_dumped(rt: &impl Abort, alloc: Global, design: &Design) -> Result<bool, Fail> {
+    is_inverter(rt, design);
     let mut one = Vec::new(alloc);
     in_two(alloc, design, &mut one)?;
     let mut other = Vec::new(alloc);
@@ -87,14 +107,10 @@ fn are_dumped(alloc: Global, design: &Design) -> Result<bool, Fail>
     Ok(one.as_slice() == wanted.as_bytes() && other.as_slice() == wanted.as_bytes())
 }
 
-/// The same of the inverter's design.
-fn is_dumped(rt: &impl Abort, alloc: Global) -> Result<bool, Fail> {
-    let design = inverter(rt, alloc)?;
-    are_dumped(alloc, &design)
-}
-
 #[test]
 fn text_by_windows(rt: HostRuntime) -> Result<(), Fail> {
-    holds(&rt, is_dumped(&rt, rt.alloc())?);
+    let alloc = rt.alloc();
+    let is_dumped = of_inverter(alloc, |design| are_dumped(&rt, alloc, design))?;
+    holds(&rt, is_dumped);
     Ok(())
 }

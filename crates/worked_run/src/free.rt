@@ -22,7 +22,7 @@ use std::sync::atomic::Ordering::SeqCst;
 use std::test::Fail;
 use std::thread;
 use std::thread::Threads;
-use worked_designs::{Inputs, bare, design_of, sampled, spread, text_of};
+use worked_designs::{Inputs, bare, of_design, sampled, spread, text_of};
 
 const LOOKS: u32 = 10_000_000;
 
@@ -35,21 +35,6 @@ fn waits_above(number: &AtomicU64, least: u64) -> bool {
         thread::yield_now();
     }
     false
-}
-
-// A design with a clustering of it.
-#[derive(Drop)]
-struct Clustered {
-    design: Design,
-    clustering: Clustering,
-    ghost each: { length clustering.assign ≡ nets_of design },
-}
-
-// The toggle with each of its two nets in a cluster of its own.
-fn spread_toggle(alloc: Global) -> Result<Clustered, Fail> {
-    let design = design_of(alloc, bare(TOGGLE), sampled(12))?;
-    let clustering = spread(alloc, &design, 2)?;
-    Ok(Clustered { design, clustering })
 }
 
 // The text of the toggle.
@@ -77,35 +62,47 @@ fn end_of(answer: &Result<Collector, RunFault>) -> Ended {
     }
 }
 
-// A run by so many workers.
+// A run of a design by so many workers.
 fn run_by<G: Turnstile + Sync, R: Threads + Wait + Sync>(
     rt: &R,
     alloc: Global,
-    clustered: &Clustered,
+    design: &Design,
+    clustering: &Clustering,
     workers: u32,
     gate: &G,
-) -> Result<Ended, Fail> {
+) -> Result<Ended, Fail>
+    requires { length clustering.now.assign ≡ nets_of design.now }
+{
     let workers = Workers::new(workers)?;
-    let answer = run_free(
-        rt,
-        alloc,
-        &clustered.design,
-        &clustered.clustering,
-        workers,
-        gate,
-    );
+    let answer = run_free(rt, alloc, design, clustering, workers, gate);
     Ok(end_of(&answer))
 }
 
-// The toggle by so many workers.
+// The same, with the nets spread over two clusters.
+fn spread_by<G: Turnstile + Sync, R: Threads + Wait + Sync>(
+    rt: &R,
+    alloc: Global,
+    design: &Design,
+    workers: u32,
+    gate: &G,
+) -> Result<Ended, Fail> {
+    let clustering = spread(alloc, design, 2)?;
+    run_by(rt, alloc, design, &clustering, workers, gate)
+}
+
+// The toggle, with each of its two nets in a cluster of its own, by so many workers.
 fn toggle_by<G: Turnstile + Sync, R: Threads + Wait + Sync>(
     rt: &R,
     alloc: Global,
     workers: u32,
     gate: &G,
 ) -> Result<Ended, Fail> {
-    let toggle = spread_toggle(alloc)?;
-    run_by(rt, alloc, &toggle, workers, gate)
+    of_design(
+        alloc,
+        bare(TOGGLE),
+        sampled(12),
+        |design| spread_by(rt, alloc, design, workers, gate),
+    )
 }
 
 // How a run with a text ended.
@@ -146,26 +143,19 @@ fn end_of_text(answer: &Result<u64, RunFault>) -> Told {
     }
 }
 
-// A run by two workers that tells its text.
+// A run by two workers, one of them for each of two clusters, that tells its text.
 fn tell_by_two<G: Turnstile + Sync, S: Sink, R: Threads + Wait + Sync>(
     rt: &R,
     alloc: Global,
-    clustered: &Clustered,
+    design: &Design,
     gate: &G,
     sink: &mut S,
 ) -> Result<Told, Fail>
     requires { S.failures sink.old < 2 ^ 64 - 1 }
 {
     let workers = Workers::new(2)?;
-    let answer = run_free_text(
-        rt,
-        alloc,
-        &clustered.design,
-        &clustered.clustering,
-        workers,
-        gate,
-        sink,
-    );
+    let clustering = spread(alloc, design, 2)?;
+    let answer = run_free_text(rt, alloc, design, &clustering, workers, gate, sink);
     Ok(end_of_text(&answer))
 }
 
@@ -178,8 +168,14 @@ fn toggle_told<G: Turnstile + Sync, S: Sink, R: Threads + Wait + Sync>(
 ) -> Result<Told, Fail>
     requires { S.failures sink.old < 2 ^ 64 - 1 }
 {
-    let toggle = spread_toggle(alloc)?;
-    tell_by_two(rt, alloc, &toggle, gate, sink)
+    of_design(
+        alloc,
+        bare(TOGGLE),
+        sampled(12),
+        |design|
+            requires { S.failures sink.now < 2 ^ 64 - 1 }
+        { tell_by_two(rt, alloc, design, gate, sink) },
+    )
 }
 
 #[derive(Clone, Copy)]
@@ -403,8 +399,29 @@ fn halves(alloc: Global, count: u32) -> Result<Vec<u32>, AllocError> {
     Ok(assign)
 }
 
-// The buffers, which are slower than the run is long.
-fn slow_buffers(alloc: Global) -> Result<Design, Fail> {
+// The inputs of these buffers in one cluster, and the buffers in another.
+fn halved(rt: &impl Abort, alloc: Global, design: &Design) -> Result<Clustering, Fail>
+    ensures { IfOk result (λ clustering. length clustering.assign ≡ nets_of design.now) }
+{
+    let clustering = Clustering::new(140, 2, halves(alloc, 70)?)?;
+    holds(rt, clustering.nets() == design.netlist().len());
+    Ok(clustering)
+}
+
+// A run of the buffers by two workers.
+fn halved_by_two<R: Abort + Threads + Wait + Sync>(
+    rt: &R,
+    alloc: Global,
+    design: &Design,
+) -> Result<Ended, Fail> {
+    let clustering = halved(rt, alloc, design)?;
+    run_by(rt, alloc, design, &clustering, 2, &Patience)
+}
+
+// The buffers are slower than the run is long.
+#[test]
+fn early_reader(rt: HostRuntime) -> Result<(), Fail> {
+    let alloc = rt.alloc();
     let (bench, stimuli) = buffers(alloc, 70)?;
     let inputs = Inputs {
         netlist: bench.as_bytes(),
@@ -418,33 +435,13 @@ fn slow_buffers(alloc: Global) -> Result<Design, Fail> {
         clock: None,
         init: Level::X,
     };
-    design_of(alloc, inputs, settings)
-}
-
-// The inputs of these buffers in one cluster, and the buffers in another.
-fn halved(rt: &impl Abort, alloc: Global, design: &Design) -> Result<Clustering, Fail>
-    ensures { IfOk result (λ clustering. length clustering.assign ≡ nets_of design.now) }
-{
-    let clustering = Clustering::new(140, 2, halves(alloc, 70)?)?;
-    holds(rt, clustering.nets() == design.netlist().len());
-    Ok(clustering)
-}
-
-fn halved_buffers(rt: &impl Abort, alloc: Global) -> Result<Clustered, Fail> {
-    let design = slow_buffers(alloc)?;
-    let clustering = halved(rt, alloc, &design)?;
-    Ok(Clustered { design, clustering })
-}
-
-#[test]
-fn early_reader(rt: HostRuntime) -> Result<(), Fail> {
-    let alloc = rt.alloc();
-    let buffers = halved_buffers(&rt, alloc)?;
-    same(
-        &rt,
-        run_by(&rt, alloc, &buffers, 2, &Patience)?,
-        Ended::Whole,
-    );
+    let ended = of_design(
+        alloc,
+        inputs,
+        settings,
+        |design| halved_by_two(&rt, alloc, design),
+    )?;
+    same(&rt, ended, Ended::Whole);
     Ok(())
 }
 

@@ -11,7 +11,7 @@ use std::process::Abort;
 use std::sync::Wait;
 use std::test::Fail;
 use std::thread::Threads;
-use worked_designs::{Inputs, bare, design_of, or_fail, sampled, spread, stimulated, text_of};
+use worked_designs::{Inputs, bare, of_design, or_fail, sampled, spread, stimulated, text_of};
 
 // The text of a run in which the nets are spread over so many clusters.
 fn run_text<R: Threads + Wait + Sync>(
@@ -54,8 +54,12 @@ fn writes<R: AllocGlobal + Abort + Threads + Wait + Sync>(
     body: &str,
 ) -> Result<(), Fail> {
     let text = text_of(rt.alloc(), references, body)?;
-    let design = design_of(rt.alloc(), inputs, sampled(horizon))?;
-    all_alike(rt, rt.alloc(), &design, text.as_bytes())
+    of_design(
+        rt.alloc(),
+        inputs,
+        sampled(horizon),
+        |design| all_alike(rt, rt.alloc(), design, text.as_bytes()),
+    )
 }
 
 #[test]
@@ -81,16 +85,31 @@ fn toggle(rt: HostRuntime) -> Result<(), Fail> {
     writes(&rt, bare(TOGGLE), 12, TOGGLE_TEXT.0, TOGGLE_TEXT.1)
 }
 
+// How many rounds a design takes by so many workers, where the nets are spread over as many clusters.
+fn rounds_by<R: Threads + Wait + Sync>(
+    rt: &R,
+    alloc: Global,
+    design: &Design,
+    workers: u32,
+) -> Result<u32, Fail> {
+    let count = Workers::new(workers)?;
+    let clustering = spread(alloc, design, workers)?;
+    let run = run_rounds(rt, alloc, design, &clustering, count)?;
+    Ok(run.rounds)
+}
+
 // How many rounds the toggle takes by so many workers, of whom the first has `q` and the last has `d`.
 fn rounds_of_toggle<R: Threads + Wait + Sync>(
     rt: &R,
     alloc: Global,
     workers: u32,
 ) -> Result<u32, Fail> {
-    let design = design_of(alloc, bare(TOGGLE), sampled(12))?;
-    let clustering = spread(alloc, &design, workers)?;
-    let run = run_rounds(rt, alloc, &design, &clustering, Workers::new(workers)?)?;
-    Ok(run.rounds)
+    of_design(
+        alloc,
+        bare(TOGGLE),
+        sampled(12),
+        |design| rounds_by(rt, alloc, design, workers),
+    )
 }
 
 // The clocks of `q` and `d` after each round, by hand: 3 and 4, 7 and 8, 11 and 12, then both at the end.
@@ -120,8 +139,12 @@ fn latch(rt: HostRuntime) -> Result<(), Fail> {
 
 // The text of no nets up to tick 1.
 fn text_of_none<R: Threads + Wait + Sync>(rt: &R, alloc: Global) -> Result<Vec<u8>, Fail> {
-    let design = design_of(alloc, bare(b""), sampled(1))?;
-    run_text(rt, alloc, &design, 2, 2)
+    of_design(
+        alloc,
+        bare(b""),
+        sampled(1),
+        |design| run_text(rt, alloc, design, 2, 2),
+    )
 }
 
 #[test]

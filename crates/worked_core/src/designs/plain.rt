@@ -8,12 +8,16 @@ use cmb_wave::{Change, Level, Wave};
 use std::alloc::Global;
 use std::process::Abort;
 use std::test::Fail;
-use worked_designs::{Inputs, bare, design_of, or_fail, sampled, stimulated};
+use worked_designs::{Inputs, bare, of_design, or_fail, sampled, stimulated};
 
 // The waves of the design of these texts.
 fn waves_of(alloc: Global, inputs: Inputs<'_>, settings: Settings) -> Result<Vec<Wave>, Fail> {
-    let design = design_of(alloc, inputs, settings)?;
-    or_fail(plain_waves(alloc, &design))
+    of_design(
+        alloc,
+        inputs,
+        settings,
+        |design| or_fail(plain_waves(alloc, design)),
+    )
 }
 
 // The wave of a net is whole, and has these changes.
@@ -88,8 +92,12 @@ fn fault_of(
     inputs: Inputs<'_>,
     settings: Settings,
 ) -> Result<Option<DesignFault>, Fail> {
-    let design = design_of(alloc, inputs, settings)?;
-    Ok(plain_waves(alloc, &design).err())
+    of_design(
+        alloc,
+        inputs,
+        settings,
+        |design| Ok(plain_waves(alloc, design).err()),
+    )
 }
 
 #[test]
