@@ -1,8 +1,5 @@
 //! `cmb_bench` and `cmb_design`: netlists, tables, designs, and their values by a plain table.
 
-ghost use Rattle.std.specs.Prelude.{◌≡◌, IfOk};
-ghost use Rattle.cmb_design.specs.Exact.{nets_of};
-
 use crate::checks::{holds, same};
 use crate::waves::rise;
 use cmb_bench::{Driver, Kind, Netlist, read_bench};
@@ -53,30 +50,32 @@ fn design_of(
     Design::new(alloc, netlist, delays, stimuli, clocks, initial, settings)
 }
 
-/// A flip-flop (net 0) that samples its inverse (net 1) at ticks 2, 6 and 10, up to tick 12.
-pub fn toggle(alloc: Global) -> Result<Design, Fail>
-    ensures { IfOk result (λ design. nets_of design ≡ 2) }
+/// What is found out about the toggle: a flip-flop (net 0) that samples its inverse (net 1) at ticks 2, 6 and 10, up to
+/// tick 12. Only here a design is owned, since such a function is proved slowly.
+pub fn of_toggle<T: Drop, F: FnOnce(&Design) -> Result<T, Fail> + Drop>(
+    alloc: Global,
+    find: F,
+) -> Result<T, Fail>
+    requires { F.IsAlwaysCallable find }
 {
     let tables = read_tables(alloc)?;
     let netlist = read_bench(alloc, b"q = DFF(d)\nd = NOT(q)\n")?;
     let design = design_of(alloc, netlist, tables, None)?;
-    if design.netlist().len() != 2 {
-        return Err(Fail::new("not two nets"));
-    }
-    Ok(design)
+    let found = find(&design);
+    drop(design);
+    found
 }
 
-fn is_toggle(design: &Design) -> bool
-    requires { nets_of design.now ≡ 2 }
-{
-    let netlist = design.netlist();
-    netlist.number(b"d") == Some(1) && matches!(netlist.driver(0), Driver::Flop(_))
+fn is_toggle(netlist: &Netlist) -> bool {
+    netlist.len() == 2
+        && netlist.number(b"d") == Some(1)
+        && matches!(netlist.driver(0), Driver::Flop(_))
 }
 
 #[test]
 fn netlists(rt: HostRuntime) -> Result<(), Fail> {
-    let design = toggle(rt.alloc())?;
-    holds(&rt, is_toggle(&design));
+    let has_two = of_toggle(rt.alloc(), |design| Ok(is_toggle(design.netlist())))?;
+    holds(&rt, has_two);
     Ok(())
 }
 
@@ -114,17 +113,11 @@ fn wrong_designs(rt: HostRuntime) -> Result<(), Fail> {
     Ok(())
 }
 
-// The waves of the toggle, by a plain table.
-fn waves(alloc: Global) -> Result<Vec<Wave>, Fail> {
-    let design = toggle(alloc)?;
-    let waves = plain_waves(alloc, &design)?;
-    Ok(waves)
-}
-
 // By hand: d is the inverse of q a tick ago, so it rises at tick 1; q shows that at tick 3.
 #[test]
 fn values(rt: HostRuntime) -> Result<(), Fail> {
-    let waves = waves(rt.alloc())?;
+    let alloc = rt.alloc();
+    let waves = of_toggle(alloc, |design| Ok(plain_waves(alloc, design)?))?;
     holds(&rt, are_right(&waves));
     Ok(())
 }

@@ -1,10 +1,9 @@
 //! `cmb_links`: workers, boards of promises, and links for messages.
 
 ghost use Rattle.std.specs.Prelude.{◌≡◌};
-ghost use Rattle.cmb_design.specs.Exact.{nets_of};
 
 use crate::checks::{holds, same};
-use crate::designs::toggle;
+use crate::designs::of_toggle;
 use crate::protocol::spread;
 use cmb_core::Clustering;
 use cmb_design::Design;
@@ -22,7 +21,7 @@ fn workers(rt: HostRuntime) {
     );
 }
 
-// Whether a board that nobody used ends with a promise for each of two nets, and with nobody done.
+// Whether a board that two workers have and nobody used ends with a promise for each of two nets, and with nobody done.
 fn ends_unused(
     alloc: Global,
     design: &Design,
@@ -36,25 +35,17 @@ fn ends_unused(
     Ok(!ending.is_raised && ending.promises.len() == 2 && ending.finished == 0)
 }
 
-fn board_ends(alloc: Global, design: &Design, workers: Workers) -> Result<bool, Fail>
-    requires nets { nets_of design.now ≡ 2 }
-    requires two { workers ≡ 2 }
-{
+fn board_ends(alloc: Global, design: &Design) -> Result<bool, Fail> {
+    let workers = Workers::new(2)?;
     let clustering = spread(alloc, design, 2)?;
     Ok(ends_unused(alloc, design, &clustering, workers)?)
 }
 
-fn toggle_ends(alloc: Global, workers: Workers) -> Result<bool, Fail>
-    requires { workers ≡ 2 }
-{
-    let design = toggle(alloc)?;
-    board_ends(alloc, &design, workers)
-}
-
 #[test]
 fn boards(rt: HostRuntime) -> Result<(), Fail> {
-    let workers = Workers::new(2)?;
-    holds(&rt, toggle_ends(rt.alloc(), workers)?);
+    let alloc = rt.alloc();
+    let is_ended = of_toggle(alloc, |design| board_ends(alloc, design))?;
+    holds(&rt, is_ended);
     Ok(())
 }
 
@@ -71,8 +62,11 @@ fn is_refused(alloc: Global, design: &Design) -> bool {
 
 #[test]
 fn links(rt: HostRuntime) -> Result<(), Fail> {
-    let design = toggle(rt.alloc())?;
-    holds(&rt, is_refused(rt.alloc(), &design));
-    holds(&rt, is_empty_link(&rt, &design)?);
+    let alloc = rt.alloc();
+    holds(
+        &rt,
+        of_toggle(alloc, |design| Ok(is_refused(alloc, design)))?,
+    );
+    holds(&rt, of_toggle(alloc, |design| is_empty_link(&rt, design))?);
     Ok(())
 }

@@ -4,7 +4,7 @@ ghost use Rattle.std.specs.Prelude.{◌≡◌, ◌<◌, IfOk, length};
 ghost use Rattle.cmb_design.specs.Exact.{nets_of};
 
 use crate::checks::{holds, same};
-use crate::designs::toggle;
+use crate::designs::of_toggle;
 use cmb_core::{Cluster, Clustering, Event, PlayFault, World};
 use cmb_design::Design;
 use cmb_wave::Piece;
@@ -12,21 +12,20 @@ use std::alloc::Global;
 use std::process::Abort;
 use std::test::Fail;
 
-/// Both nets of a design, spread over so many clusters.
+/// The nets of a design, spread over so many clusters.
 pub fn spread(alloc: Global, design: &Design, clusters: u32) -> Result<Clustering, Fail>
-    requires { nets_of design.now ≡ 2 }
     ensures { IfOk result (λ clustering. length clustering.assign ≡ nets_of design.now) }
 {
-    let clustering = Clustering::spread(alloc, 2, clusters)?;
-    if clustering.nets() != 2 {
-        return Err(Fail::new("not two nets"));
+    let nets = design.netlist().len();
+    let clustering = Clustering::spread(alloc, nets as u32, clusters)?;
+    if clustering.nets() != nets {
+        return Err(Fail::new("a clustering of other nets"));
     }
     Ok(clustering)
 }
 
 fn open_of(alloc: Global, design: &Design, cluster: u32) -> Result<Cluster, Fail>
-    requires nets { nets_of design.now ≡ 2 }
-    requires cluster { cluster < 2 }
+    requires { cluster < 2 }
 {
     let clustering = spread(alloc, design, 2)?;
     if clustering.clusters() != 2 {
@@ -39,8 +38,7 @@ fn open_of(alloc: Global, design: &Design, cluster: u32) -> Result<Cluster, Fail
 fn cluster_of(alloc: Global, cluster: u32) -> Result<Cluster, Fail>
     requires { cluster < 2 }
 {
-    let design = toggle(alloc)?;
-    open_of(alloc, &design, cluster)
+    of_toggle(alloc, |design| open_of(alloc, design, cluster))
 }
 
 // What q tells once it has stepped, as far as it goes: a promise, and a message.
@@ -107,16 +105,9 @@ fn ends(rt: &impl Abort, world: &mut World) -> Result<(), Fail> {
     Ok(())
 }
 
-fn world_of(alloc: Global, design: &Design) -> Result<World, Fail>
-    requires { nets_of design.now ≡ 2 }
-{
+fn world_of(alloc: Global, design: &Design) -> Result<World, Fail> {
     let clustering = spread(alloc, design, 2)?;
     Ok(World::open(alloc, design, &clustering)?)
-}
-
-fn toggle_world(alloc: Global) -> Result<World, Fail> {
-    let design = toggle(alloc)?;
-    world_of(alloc, &design)
 }
 
 fn played(rt: &impl Abort, world: &mut World) -> Result<(), Fail> {
@@ -126,6 +117,7 @@ fn played(rt: &impl Abort, world: &mut World) -> Result<(), Fail> {
 
 #[test]
 fn worlds(rt: HostRuntime) -> Result<(), Fail> {
-    let mut world = toggle_world(rt.alloc())?;
+    let alloc = rt.alloc();
+    let mut world = of_toggle(alloc, |design| world_of(alloc, design))?;
     played(&rt, &mut world)
 }

@@ -4,7 +4,7 @@ ghost use Rattle.std.specs.Prelude.{◌≡◌, length};
 ghost use Rattle.cmb_design.specs.Exact.{nets_of};
 
 use crate::checks::holds;
-use crate::designs::toggle;
+use crate::designs::of_toggle;
 use crate::protocol::spread;
 use cmb_core::Clustering;
 use cmb_design::Design;
@@ -83,21 +83,15 @@ fn are_alike<R: AllocGlobal + Threads + Wait + Sync>(
     Ok(in_rounds && freely && is_collected(rt, design, clustering, workers)?)
 }
 
-fn runs_of<R: AllocGlobal + Threads + Wait + Sync>(rt: &R, design: &Design) -> Result<bool, Fail>
-    requires { nets_of design.now ≡ 2 }
-{
+fn runs_of<R: AllocGlobal + Threads + Wait + Sync>(rt: &R, design: &Design) -> Result<bool, Fail> {
     let clustering = spread(rt.alloc(), design, 2)?;
     are_alike(rt, design, &clustering)
 }
 
-fn toggle_runs<R: AllocGlobal + Threads + Wait + Sync>(rt: &R) -> Result<bool, Fail> {
-    let design = toggle(rt.alloc())?;
-    runs_of(rt, &design)
-}
-
 #[test]
 fn runs(rt: HostRuntime) -> Result<(), Fail> {
-    holds(&rt, toggle_runs(&rt)?);
+    let are_alike = of_toggle(rt.alloc(), |design| runs_of(&rt, design))?;
+    holds(&rt, are_alike);
     Ok(())
 }
 
@@ -122,15 +116,11 @@ fn first_text(rt: &impl Abort, alloc: Global, design: &Design) -> Result<Vec<u8>
     extended(rt, design, &mut writer, &collector)
 }
 
-fn first_of_toggle(rt: &impl Abort, alloc: Global) -> Result<Vec<u8>, Fail> {
-    let design = toggle(alloc)?;
-    Ok(first_text(rt, alloc, &design)?)
-}
-
 // It has the declarations alone.
 #[test]
 fn first_part(rt: HostRuntime) -> Result<(), Fail> {
-    let text = first_of_toggle(&rt, rt.alloc())?;
+    let alloc = rt.alloc();
+    let text = of_toggle(alloc, |design| Ok(first_text(&rt, alloc, design)?))?;
     holds(&rt, text.as_slice() == DECLARATIONS);
     Ok(())
 }
