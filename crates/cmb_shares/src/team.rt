@@ -74,7 +74,7 @@ fn write_whole<R: Threads + Wait + Sync, S: Sink>(
 /// gives its length; with one thread, or none, by `write_stream`. Threads are started only where there is enough to do
 /// for them: then one of them has all nets, and the others make text. The text is the
 /// same for any number. What it needs of memory hardly grows with the horizon. Whatever the fault, the sink took a
-/// beginning of the text. A failed write is the answer then and only then; else memory or a thread was refused.
+/// beginning of the text. A failed write is the answer then and only then; else memory was refused.
 pub fn write_team<R: Threads + Wait + Sync, S: Sink>(
     rt: &R,
     alloc: Global,
