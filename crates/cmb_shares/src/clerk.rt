@@ -86,13 +86,11 @@ impl<'a, 'd, T: ShareRun> Clerk<'a, 'd, T> {
         self.is_ahead
     }
 
-    // The next window, if it has come and nobody else is at the desk.
+    // The next window, if it has come, more text is wanted and nobody else is at the desk. Errors: the desk is closed.
     fn take_job(&mut self) -> Result<Option<Job<T>>, AllocError> {
-        if self.stays_ahead() {
-            return Ok(None);
-        }
+        let is_ahead = self.stays_ahead();
         match self.desk.try_lock() {
-            Some(mut desk) => desk.take(&mut self.spent),
+            Some(mut desk) => desk.take(&mut self.spent, is_ahead),
             None => Ok(None),
         }
     }

@@ -200,17 +200,18 @@ impl<T: ShareRun> Desk<T> {
         }
     }
 
-    /// What all shares sent of the next window, if it has come. Gives the room of earlier ones back. Errors: the desk
-    /// is closed, a share ended early, or memory was refused.
+    /// What all shares sent of the next window, if it has come, and unless texts enough were made. Gives the room of
+    /// earlier ones back. Errors: the desk is closed, a share ended early, or memory was refused.
     pub(crate) fn take(
         &mut self,
         spent: &mut Vec<Message<T>>,
+        is_ahead: bool,
     ) -> Result<Option<Job<T>>, AllocError> {
         let Some(mut inbox) = self.inbox.take() else {
             return Err(AllocError);
         };
         inbox.give_back(spent);
-        if inbox.clock >= inbox.windows.horizon() {
+        if is_ahead || inbox.clock >= inbox.windows.horizon() {
             self.inbox = Some(inbox);
             return Ok(None);
         }
