@@ -44,7 +44,7 @@ def case_of(name, circuit):
 def cases():
     yield case_of("registers", circuits.lfsrs(16, 260, 128))
     yield case_of("clocked", circuits.local(3_000, 1_500))
-    yield case_of("multiplier", circuits.multiplier(104, 4, circuits.UNIT))
+    yield case_of("multiplier", circuits.multiplier(104, 6, circuits.UNIT))
 
 
 def words_by(words, mode, threads):
