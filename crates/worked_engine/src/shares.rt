@@ -298,22 +298,30 @@ fn many_windows(rt: HostRuntime) -> Result<(), Fail> {
 }
 
 /// Whether the share that has all nets makes that text, and a team does.
-fn is_as_of_a_team<R: Threads + Wait + Sync>(rt: &R, alloc: Global) -> Result<bool, Fail> {
-    let design = counter(alloc, b"", 5_000)?;
-    let text = streamed(alloc, &design)?;
+fn is_as_of_a_team<R: Threads + Wait + Sync>(
+    rt: &R,
+    alloc: Global,
+    design: &Design,
+) -> Result<bool, Fail> {
+    let text = streamed(alloc, design)?;
     let whole = whole_partition(alloc, design.netlist())?;
     let mut room = Room::new(alloc, 0)?;
-    let written = write_team(rt, alloc, &design, None, 3, &mut room)?;
-    Ok(
-        is_text(rt, alloc, &design, None, &whole, &text)?
-            && written == text.len() as u64
-            && room.bytes == text,
-    )
+    let written = write_team(rt, alloc, design, None, 3, &mut room)?;
+    let is_same = written == text.len() as u64 && room.bytes == text;
+    drop(room);
+    Ok(is_same && is_text(rt, alloc, design, None, &whole, &text)?)
 }
 
 #[test]
 fn one_share(rt: HostRuntime) -> Result<(), Fail> {
-    holds(&rt, is_as_of_a_team(&rt, rt.alloc())?);
+    let alloc = rt.alloc();
+    let is_same = of_counter(
+        alloc,
+        b"",
+        5_000,
+        |design| is_as_of_a_team(&rt, alloc, design),
+    )?;
+    holds(&rt, is_same);
     Ok(())
 }
 
