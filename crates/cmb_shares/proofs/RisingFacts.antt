@@ -3,7 +3,6 @@ use Rattle.std.proofs.Common.{ℕ, zero, suc, ◌<◌, ◌≤◌, List, [], ◌�
 use Rattle.std.specs.Prelude.{All}
 use Rattle.cmb_words.specs.Changes.{RisesWithin}
 use Rattle.cmb_words.specs.declared.changed.Changed.{Changed}
-use Rattle.cmb_words.proofs.Rising.{rises_at}
 use Rattle.cmb_shares.specs.Inner.Messages.{Rise}
 
 rises_above : (low nets : ℕ) (changes : List Changed) (k : ℕ) (d : Changed) → RisesWithin low nets changes → k < length changes → low ≤ (get_or changes k d).net
