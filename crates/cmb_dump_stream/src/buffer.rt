@@ -112,8 +112,8 @@ impl<'a> TextBuffer<'a> {
         self.grow(dump.text(), upto)
     }
 
-    /// Adds a text of the ticks from the clock on below `end`. Where nothing is kept the text is taken, and room is left
-    /// in its place; else it is copied.
+    /// Adds a text of the ticks from the clock on below `end`. Where nothing is kept the text is taken, and room is
+    /// left in its place; else it is copied.
     pub fn take_text(&mut self, text: &mut Vec<u8>, end: u32) -> Result<(), AllocError>
         requires order { self.old.clock ≤ end }
         requires within { end ≤ self.old.subject.design.horizon }

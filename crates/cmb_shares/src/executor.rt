@@ -38,8 +38,8 @@ impl<'a, 'd, T: ShareRun> Executor<'a, 'd, T> {
         }
     }
 
-    // Goes on with its own share, if it has one, by a window, unless that would have to wait or another thread is at it.
-    // Says whether it did so.
+    // Goes on with its own share by a window, if it has one, unless that would have to wait or another thread is at
+    // it. Says whether it did so.
     fn visit(&self) -> bool {
         let Some(berth) = self.berths.get(self.home) else {
             return false;
