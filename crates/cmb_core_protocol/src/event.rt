@@ -8,7 +8,7 @@ use thiserror::Error;
 
 /// An event. The posts of a world and its promises are lists of their own: a number is the place in its
 /// list, from 0, in the order in which they were made.
-#[derive(Clone, Copy, Debug, PartialEq, Eq)]
+#[derive(Clone, Copy)]
 pub enum Event {
     /// Of a net: its process goes on as far as it can.
     Step(u32),

@@ -15,7 +15,7 @@ use cmb_netlist::Driver;
 use std::alloc::{AllocError, Global};
 
 /// Between what paths lead.
-#[derive(Clone, Copy, Debug, PartialEq, Eq)]
+#[derive(Clone, Copy)]
 pub enum Between {
     /// From inputs and flip-flops to data of flip-flops and outputs.
     All,

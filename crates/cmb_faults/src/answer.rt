@@ -3,7 +3,7 @@
 use cmb_count::Counts;
 
 /// What was simulated and written.
-#[derive(Clone, Copy, Debug, PartialEq, Eq)]
+#[derive(Clone, Copy)]
 pub struct Report {
     /// How many nets the design has.
     pub nets: u32,
@@ -14,7 +14,7 @@ pub struct Report {
 }
 
 /// What was expected of a run, and how much of it came otherwise.
-#[derive(Clone, Copy, Debug, PartialEq, Eq)]
+#[derive(Clone, Copy)]
 pub struct Comparison {
     /// Of the text that lists the rows that differ.
     pub report: Report,
@@ -25,7 +25,7 @@ pub struct Comparison {
 }
 
 /// What was done.
-#[derive(Clone, Copy, Debug, PartialEq, Eq)]
+#[derive(Clone, Copy)]
 pub enum Done {
     /// The waveforms were written.
     Ran(Report),
