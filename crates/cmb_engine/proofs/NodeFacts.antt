@@ -92,6 +92,20 @@ module _ (pins : List Pin) (samplers : List Sampler) (nodes : List Node) (now : 
   pub gate-lawful : (nets most : ℕ) (kind : Kind) (part : PinRange) → node.rule ≡ rule.Gate kind part → IsLawful nets most (cell_at now.cells rank) → IsLawful nets most (Gate kind (pins_at pins part))
   gate-lawful nets most kind part has = subst (λ (cell : Cell). IsLawful nets most cell) (node-read (rule.Gate kind part) has)
 
+  pub flop-read : AreInside pins samplers nodes → (number : ℕ) (sampler : Sampler) → node.rule ≡ rule.Flop number → sampler ≡ get_or samplers number sampler → cell_at now.cells rank ≡ flop_of sampler
+  flop-read inside number sampler has is =
+      node-read (rule.Flop number) has ∙ get_or-map flop_of samplers number sampler Told listed ∙ ap flop_of (sym is)
+    where
+      here : IsInside pins samplers node.rule
+      here = subst (λ (n : Node). IsInside pins samplers n.rule) (sym read) (All-from_recursion (λ (n : Node). IsInside pins samplers n.rule) nodes inside rank node rank-inside)
+
+      listed : number < length samplers
+      listed = subst (IsInside pins samplers) has here
+
+  pub flop-lawful : AreInside pins samplers nodes → (nets most number : ℕ) (sampler : Sampler) → node.rule ≡ rule.Flop number → sampler ≡ get_or samplers number sampler
+      → IsLawful nets most (cell_at now.cells rank) → IsLawful nets most (flop_of sampler)
+  flop-lawful inside nets most number sampler has is = subst (λ (cell : Cell). IsLawful nets most cell) (flop-read inside number sampler has is)
+
 -- ---- one more node
 
 pins_more : (xs ys : List Pin) (samplers : List Sampler) (r : NodeRule) → IsInside xs samplers r → node_cell (xs ++ ys) samplers r ≡ node_cell xs samplers r

@@ -7,7 +7,7 @@ use Rattle.cmb_engine.specs.Inner.Known.{known_levels}
 use Rattle.cmb_engine.specs.Inner.Tables.{pins_at}
 use Rattle.cmb_engine.specs.declared.cell.Pin.{Pin}
 use Rattle.cmb_engine.specs.declared.nodes.NodeRule.TheVariants as rule
-use Rattle.cmb_engine.proofs.NodeFacts.{gate-lawful, double-within, double-lawful, double-made, double-read, node-read, single-read}
+use Rattle.cmb_engine.proofs.NodeFacts.{flop-lawful, flop-read, gate-lawful, double-within, double-lawful, double-made, double-read, node-read, single-read}
 use Rattle.cmb_engine.proofs.nodes.Nodes.any_known_word.Goals as goal
 
 pub returns-in-Single-clause-made : goal.returns-in-Single-clause-made
@@ -105,3 +105,29 @@ known_gate-requires-clause-within c =
     gate-lawful inside.pins.items inside.samplers.items inside.nodes.items c.args.self.now c.self.view_is c.args.rank c.requires.rank c.index.result.now c.index.ensures
     (length c.args.ones.now) c.args.first c.in-Gate.kind part c.in-Gate.is c.requires.cell in
     subst (All (λ (p : Pin). p.delay ≤ c.args.first)) (sym here) lawful.2
+
+pub returns-in-Flop-clause-made : goal.returns-in-Flop-clause-made
+returns-in-Flop-clause-made c = λ place from small.
+    let inside = c.self.inside in
+    c.known_flop.ensures.from place from small
+    ∙ ap (λ (cell : Cell). cell_level (known_levels c.args.ones.now) (level_in c.known_flop.result 0) c.args.to cell place)
+    (sym (flop-read inside.pins.items inside.samplers.items inside.nodes.items c.args.self.now c.self.view_is c.args.rank c.requires.rank c.index.result.now c.index.ensures c.self.invariant
+    c.in-Flop.number c.index-in-Flop.result.now c.in-Flop.is c.index-in-Flop.ensures))
+
+pub known_flop-requires-clause-clock : goal.known_flop-requires-clause-clock
+known_flop-requires-clause-clock c =
+    let inside = c.self.inside in
+    (flop-lawful inside.pins.items inside.samplers.items inside.nodes.items c.args.self.now c.self.view_is c.args.rank c.requires.rank c.index.result.now c.index.ensures c.self.invariant
+    (length c.args.ones.now) c.args.first c.in-Flop.number c.index-in-Flop.result.now c.in-Flop.is c.index-in-Flop.ensures c.requires.cell).0
+
+pub known_flop-requires-clause-net : goal.known_flop-requires-clause-net
+known_flop-requires-clause-net c =
+    let inside = c.self.inside in
+    (flop-lawful inside.pins.items inside.samplers.items inside.nodes.items c.args.self.now c.self.view_is c.args.rank c.requires.rank c.index.result.now c.index.ensures c.self.invariant
+    (length c.args.ones.now) c.args.first c.in-Flop.number c.index-in-Flop.result.now c.in-Flop.is c.index-in-Flop.ensures c.requires.cell).1
+
+pub known_flop-requires-clause-delay : goal.known_flop-requires-clause-delay
+known_flop-requires-clause-delay c =
+    let inside = c.self.inside in
+    (flop-lawful inside.pins.items inside.samplers.items inside.nodes.items c.args.self.now c.self.view_is c.args.rank c.requires.rank c.index.result.now c.index.ensures c.self.invariant
+    (length c.args.ones.now) c.args.first c.in-Flop.number c.index-in-Flop.result.now c.in-Flop.is c.index-in-Flop.ensures c.requires.cell).2
