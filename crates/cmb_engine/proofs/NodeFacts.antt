@@ -128,6 +128,16 @@ module _ (pins more_pins : List Pin) (samplers more_samplers : List Sampler) (ke
   inside_more [] n h one = (one, tt)
   inside_more (m ∷ nodes) n h one = (kept m.rule h.0, inside_more nodes n h.1 one)
 
+  all_kept : (nodes : List Node) → AreInside pins samplers nodes → AreInside more_pins more_samplers nodes
+  all_kept [] h = tt
+  all_kept (m ∷ nodes) h = (kept m.rule h.0, all_kept nodes h.1)
+
+pub flops_stay : (pins : List Pin) (xs ys : List Sampler) (nodes : List Node) → AreInside pins xs nodes → AreInside pins (xs ++ ys) nodes
+flops_stay pins xs ys = all_kept pins pins xs (xs ++ ys) (flops_kept pins xs ys)
+
+pub pins_stay : (xs ys : List Pin) (samplers : List Sampler) (nodes : List Node) → AreInside xs samplers nodes → AreInside (xs ++ ys) samplers nodes
+pins_stay xs ys samplers = all_kept xs (xs ++ ys) samplers samplers (pins_kept xs ys samplers)
+
 pub flop_inside : (pins : List Pin) (samplers : List Sampler) (nodes : List Node) (slot number : ℕ) (sampler : Sampler) → AreInside pins samplers nodes → number ≡ length samplers
     → AreInside pins (samplers ++ sampler ∷ []) (nodes ++ record { slot = slot; rule = rule.Flop number } ∷ [])
 flop_inside pins samplers nodes slot number sampler h last =

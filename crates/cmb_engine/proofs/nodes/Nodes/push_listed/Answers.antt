@@ -1,7 +1,12 @@
 use Rattle.std.proofs.Common.{◌≡◌, length, ap, ◌∙◌, arith}
 use Rattle.cmb_engine.specs.Inner.Cells.{Nodes, Gate, with_node}
-use Rattle.cmb_engine.proofs.NodeFacts.{gate_inside, gate_nodes}
+use Rattle.cmb_engine.proofs.NodeFacts.{gate_inside, gate_nodes, pins_stay}
 use Rattle.cmb_engine.proofs.nodes.Nodes.push_listed.Goals as goal
+
+pub invariant_of-self-in_err-push : goal.invariant_of-self-in_err-push
+invariant_of-self-in_err-push c =
+    rw (c.in_ok-extend_from_slice.ensures.items, c.in_err-push.ensures.items)
+    (pins_stay c.self.inside.pins.items c.args.pins.now c.self.inside.samplers.items c.self.inside.nodes.items c.self.invariant)
 
 pub invariant_of-self-2 : goal.invariant_of-self-2
 invariant_of-self-2 c =
