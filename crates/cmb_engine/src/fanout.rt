@@ -1,7 +1,8 @@
 //! The fanout of slots: who is to be visited where a slot has another word.
 
 ghost use Rattle.std.specs.Prelude.{◌≡◌, ℕ, ◌^◌, ◌<◌, All, IfOk, length, map, slice_index_or};
-ghost use Rattle.cmb_engine.specs.Inner.Cells.{Told, cell_at, is_flop, is_gate, AreFanout, AreLists, pins_of, readers_at};
+ghost use Rattle.cmb_engine.specs.Inner.Cells.{Told, cell_at, is_flop, is_gate, pins_of, readers_at};
+ghost use Rattle.cmb_engine.specs.Inner.Cells.{AreFanout, AreLists};
 ghost use Rattle.cmb_engine.specs.Inner.Orders.{IsOrder, rank_in};
 
 use crate::cells::Cells;
