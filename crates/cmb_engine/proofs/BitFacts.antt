@@ -2,12 +2,13 @@
 use Rattle.std.proofs.Common.{◌≡◌, ℕ, ◌*◌, ◌/◌, ◌%◌, ◌^◌, ◌<◌, ◌≤◌, ◌≢◌, ◌⊎◌, inl, inr, true, false, not, ◌&&◌, ◌||◌, ◌==◌, List, length, get_or, set, replicate, refl, sym, ap, subst, ◌∙◌, arith, w64, ◌+◌, ◌-◌, min, ap₂, Bool}
 use Rattle.std.proofs.lemmas.Bool.{cases_eq, cases_lt, eq-eqb, eqb-true, false≢true, ne_eqb}
 use Rattle.std.proofs.lemmas.List.{get_or-set_same, get_or-set_other, get_or-replicate, get_or_past, length-replicate, length-set, get_or_read}
+use Rattle.std.proofs.lemmas.Nat.{and_le_l}
 use Rattle.std.proofs.lemmas.Nat.Bits.{bit_at-lt, bit_at-zero, bit_at_and, bit_at_not, bit_at_set_same, bit_at_set_other}
 use Rattle.std.specs.Prelude.{bit_and, bit_or}
 use Rattle.std.specs.Int.{bit_at, bit_not}
 use Rattle.cmb_words.specs.Bits.{is_set_at}
 use Rattle.cmb_engine.specs.Inner.Batches.{IsSetAt}
-use Rattle.cmb_engine.specs.Inner.Bits.{has, Inserts}
+use Rattle.cmb_engine.specs.Inner.Bits.{has, Inserts, Lessens}
 use Rattle.cmb_engine.specs.Shares.{is_told}
 
 -- a set of told nets is one of numbers
@@ -83,6 +84,13 @@ module _ (words set_is : List ℕ) (view : words ≡ set_is) (k word mask : ℕ)
 
   word_is : word ≡ get_or words k 0
   word_is = get_or_read words k word inside read 0
+
+  pub take-less : Lessens set_is (set words k (bit_and word (bit_not w64 mask))) k
+  take-less = subst (λ (s : List ℕ). Lessens s (set words k (bit_and word (bit_not w64 mask))) k) view (record {
+    len = length-set words k (bit_and word (bit_not w64 mask));
+    others = λ other differs. get_or-set_other words k other _ 0 differs;
+    less = omega (arith, get_or-set_same words k (bit_and word (bit_not w64 mask)) 0 inside, and_le_l word (bit_not w64 mask), word_is);
+  })
 
   bit-cleared : (a b : ℕ) → a < 2 → b < 2 → (min a (1 - b) == 1) ≡ (not (b == 1) && (a == 1))
   bit-cleared a b x y = go (cases_eq a 1) (cases_eq b 1)

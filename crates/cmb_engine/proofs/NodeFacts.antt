@@ -1,7 +1,7 @@
 -- What visits read, kept in three lists.
 use Rattle.std.proofs.Common.{◌≡◌, ℕ, ◌+◌, ◌<◌, ◌≤◌, true, false, List, [], ◌∷◌, ◌++◌, length, map, get_or, refl, ap, ap₂, sym, subst, ◌∙◌, arith, if◌then◌else◌}
 use Rattle.std.specs.List.{All}
-use Rattle.std.proofs.lemmas.List.{get_or_append_left, get_or-append-add, get_or-map, length-map, map-append}
+use Rattle.std.proofs.lemmas.List.{get_or_append_left, get_or-append-add, get_or-map, length-append, length-map, map-append}
 use Rattle.std.proofs.lemmas.List.Elements.{All-cons, All-from_recursion, All-head, All-nil}
 use Rattle.cmb_wave.specs.declared.level.Level.{Level}
 use Rattle.cmb_netlist.specs.Kinds.{takes_one}
@@ -92,7 +92,63 @@ module _ (pins : List Pin) (samplers : List Sampler) (nodes : List Node) (now : 
   pub gate-lawful : (nets most : ℕ) (kind : Kind) (part : PinRange) → node.rule ≡ rule.Gate kind part → IsLawful nets most (cell_at now.cells rank) → IsLawful nets most (Gate kind (pins_at pins part))
   gate-lawful nets most kind part has = subst (λ (cell : Cell). IsLawful nets most cell) (node-read (rule.Gate kind part) has)
 
+  pub flop-read : AreInside pins samplers nodes → (number : ℕ) (sampler : Sampler) → node.rule ≡ rule.Flop number → sampler ≡ get_or samplers number sampler → cell_at now.cells rank ≡ flop_of sampler
+  flop-read inside number sampler has is =
+      node-read (rule.Flop number) has ∙ get_or-map flop_of samplers number sampler Told listed ∙ ap flop_of (sym is)
+    where
+      here : IsInside pins samplers node.rule
+      here = subst (λ (n : Node). IsInside pins samplers n.rule) (sym read) (All-from_recursion (λ (n : Node). IsInside pins samplers n.rule) nodes inside rank node rank-inside)
+
+      listed : number < length samplers
+      listed = subst (IsInside pins samplers) has here
+
+  pub flop-lawful : AreInside pins samplers nodes → (nets most number : ℕ) (sampler : Sampler) → node.rule ≡ rule.Flop number → sampler ≡ get_or samplers number sampler
+      → IsLawful nets most (cell_at now.cells rank) → IsLawful nets most (flop_of sampler)
+  flop-lawful inside nets most number sampler has is = subst (λ (cell : Cell). IsLawful nets most cell) (flop-read inside number sampler has is)
+
 -- ---- one more node
+
+-- what a rule finds in the other lists is still there where they grow
+pins_kept : (xs ys : List Pin) (samplers : List Sampler) (r : NodeRule) → IsInside xs samplers r → IsInside (xs ++ ys) samplers r
+pins_kept xs ys samplers rule.Told h = tt
+pins_kept xs ys samplers (rule.Single kind ticks net) h = tt
+pins_kept xs ys samplers (rule.Double kind ticks later net other) h = h
+pins_kept xs ys samplers (rule.Gate kind part) h = omega (arith, h, length-append xs ys)
+pins_kept xs ys samplers (rule.Flop number) h = h
+
+flops_kept : (pins : List Pin) (xs ys : List Sampler) (r : NodeRule) → IsInside pins xs r → IsInside pins (xs ++ ys) r
+flops_kept pins xs ys rule.Told h = tt
+flops_kept pins xs ys (rule.Single kind ticks net) h = tt
+flops_kept pins xs ys (rule.Double kind ticks later net other) h = h
+flops_kept pins xs ys (rule.Gate kind part) h = h
+flops_kept pins xs ys (rule.Flop number) h = omega (arith, h, length-append xs ys)
+
+module _ (pins more_pins : List Pin) (samplers more_samplers : List Sampler) (kept : (r : NodeRule) → IsInside pins samplers r → IsInside more_pins more_samplers r) where
+  inside_more : (nodes : List Node) (n : Node) → AreInside pins samplers nodes → IsInside more_pins more_samplers n.rule → AreInside more_pins more_samplers (nodes ++ n ∷ [])
+  inside_more [] n h one = (one, tt)
+  inside_more (m ∷ nodes) n h one = (kept m.rule h.0, inside_more nodes n h.1 one)
+
+  all_kept : (nodes : List Node) → AreInside pins samplers nodes → AreInside more_pins more_samplers nodes
+  all_kept [] h = tt
+  all_kept (m ∷ nodes) h = (kept m.rule h.0, all_kept nodes h.1)
+
+pub flops_stay : (pins : List Pin) (xs ys : List Sampler) (nodes : List Node) → AreInside pins xs nodes → AreInside pins (xs ++ ys) nodes
+flops_stay pins xs ys = all_kept pins pins xs (xs ++ ys) (flops_kept pins xs ys)
+
+pub pins_stay : (xs ys : List Pin) (samplers : List Sampler) (nodes : List Node) → AreInside xs samplers nodes → AreInside (xs ++ ys) samplers nodes
+pins_stay xs ys samplers = all_kept xs (xs ++ ys) samplers samplers (pins_kept xs ys samplers)
+
+pub flop_inside : (pins : List Pin) (samplers : List Sampler) (nodes : List Node) (slot number : ℕ) (sampler : Sampler) → AreInside pins samplers nodes → number ≡ length samplers
+    → AreInside pins (samplers ++ sampler ∷ []) (nodes ++ record { slot = slot; rule = rule.Flop number } ∷ [])
+flop_inside pins samplers nodes slot number sampler h last =
+    inside_more pins pins samplers (samplers ++ sampler ∷ []) (flops_kept pins samplers (sampler ∷ [])) nodes (record { slot = slot; rule = rule.Flop number }) h
+    (omega (arith, last, length-append samplers (sampler ∷ [])))
+
+pub gate_inside : (xs ys : List Pin) (samplers : List Sampler) (nodes : List Node) (slot : ℕ) (kind : Kind) (part : PinRange) → AreInside xs samplers nodes
+    → part.first ≡ length xs → part.count ≡ length ys → AreInside (xs ++ ys) samplers (nodes ++ record { slot = slot; rule = rule.Gate kind part } ∷ [])
+gate_inside xs ys samplers nodes slot kind part h first count =
+    inside_more xs (xs ++ ys) samplers samplers (pins_kept xs ys samplers) nodes (record { slot = slot; rule = rule.Gate kind part }) h
+    (omega (arith, first, count, length-append xs ys))
 
 pins_more : (xs ys : List Pin) (samplers : List Sampler) (r : NodeRule) → IsInside xs samplers r → node_cell (xs ++ ys) samplers r ≡ node_cell xs samplers r
 pins_more xs ys samplers rule.Told h = refl

@@ -97,7 +97,6 @@ impl Cells {
     }
 
     /// Adds a gate.
-    #[tactic(auto, using(crate::proofs::TableFacts::gate_inside, crate::proofs::TableFacts::gate_cells))]
     pub(crate) fn push_gate(&mut self, kind: Kind, pins: &[Pin]) -> Result<(), AllocError>
         ensures { OnOk result (self.new ≡ self.old ++ Gate kind pins.now ∷ []) }
     {

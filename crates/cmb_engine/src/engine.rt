@@ -49,7 +49,9 @@ impl<'d> Engine<'d> {
         ensures clock { IfOk result (λ engine. engine.clock ≡ 1) }
     {
         let driven = vec![in alloc; true; design.netlist().len()]?;
-        let share = ShareEngine::open(alloc, design, driven.as_slice(), driven.as_slice())?;
+        let share = ShareEngine::open(alloc, design, driven.as_slice(), driven.as_slice());
+        drop(driven);
+        let share = share?;
         match Windows::of(alloc, design, share.width()) {
             Ok(windows) => Ok(Engine { share, windows }),
             Err(error) => {

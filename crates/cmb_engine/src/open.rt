@@ -41,11 +41,28 @@ pub(crate) fn open_circuit(
     ensures wanted { IfOk result (λ circuit. (net : ℕ) → slice_index_or told.now net false ≡ true
         → has circuit.wanted net ≡ true) }
 {
-    let plan = plan_of(alloc, design, roles.as_slice())?;
-    let fanout = fanout_of(alloc, &plan.cells)?;
-    let flops = flops_of(alloc, &plan.cells)?;
-    let followers = followers_of(alloc, &plan.lines, design.netlist().len())?;
-    let wanted = wanted_of(alloc, told, &plan.lines)?;
+    let Ok(plan) = plan_of(alloc, design, roles.as_slice()) else {
+        drop(roles);
+        return Err(AllocError);
+    };
+    let Ok(followers) = followers_of(alloc, &plan.lines, design.netlist().len()) else {
+        drop((roles, plan));
+        return Err(AllocError);
+    };
+    let Ok(wanted) = wanted_of(alloc, told, &plan.lines) else {
+        drop((roles, plan, followers));
+        return Err(AllocError);
+    };
+    let Ok(flops) = flops_of(alloc, &plan.cells) else {
+        drop((roles, plan));
+        drop((followers, wanted));
+        return Err(AllocError);
+    };
+    let Ok(fanout) = fanout_of(alloc, &plan.cells) else {
+        drop((roles, plan));
+        drop((followers, wanted, flops));
+        return Err(AllocError);
+    };
     Ok(Circuit {
         wiring: Wiring {
             roles,
@@ -106,9 +123,18 @@ pub(crate) fn open_state(
     ensures clock { IfOk result (λ state. state.clock ≡ 1) }
 {
     let words = start_words(alloc, design, &circuit.wiring.roles, &circuit.lines)?;
-    let calendar = open_calendar(alloc, design, circuit, &words)?;
-    let live = all_below(alloc, words.len())?;
-    let marks = Marks::new(alloc, circuit.wiring.fanout.order.len())?;
+    let Ok(calendar) = open_calendar(alloc, design, circuit, &words) else {
+        drop(words);
+        return Err(AllocError);
+    };
+    let Ok(live) = all_below(alloc, words.len()) else {
+        drop((words, calendar));
+        return Err(AllocError);
+    };
+    let Ok(marks) = Marks::new(alloc, circuit.wiring.fanout.order.len()) else {
+        drop((words, calendar, live));
+        return Err(AllocError);
+    };
     Ok(State {
         words,
         live,

@@ -287,6 +287,31 @@ impl Order {
         }
         Ok(())
     }
+
+    // Gives ranks to all slots of cells: by levels, then to those in loops and behind them.
+    fn place_all(
+        &mut self,
+        cells: &Cells,
+        waits: &mut [u32],
+        gates: &[Numbers],
+        flops: &[Numbers],
+    ) -> Result<(), AllocError>
+        requires cells { length cells.now ≡ length self.old.ranks }
+        requires count { length waits.old ≡ length self.old.ranks }
+        requires gates { length gates.now ≡ length self.old.ranks }
+        requires flops { length flops.now ≡ length self.old.ranks }
+        requires few { length self.old.ranks < 2 ^ 32 }
+        requires placed { ArePlaced self.old }
+        ensures ranked { length self.new.ranks ≡ length self.old.ranks }
+        ensures ordered { OnOk result (IsOrder self.new) }
+    {
+        self.count_waits(Reads::All, gates, waits);
+        self.count_waits(Reads::All, flops, waits);
+        self.place_sources(cells)?;
+        self.place_readers(0, Reads::All, waits, gates, flops)?;
+        self.place_loops(waits, gates, flops)?;
+        self.place_rest()
+    }
 }
 
 // Adds one to the count of each of some slots, from one on.
@@ -315,12 +340,17 @@ pub(crate) fn order_of(
     ensures ranked { IfOk result (λ order. length order.ranks ≡ length cells.now) }
 {
     let mut order = Order::unplaced(alloc, cells.len())?;
-    let mut waits = vec![in alloc; 0; cells.len()]?;
-    order.count_waits(Reads::All, gates, &mut waits);
-    order.count_waits(Reads::All, flops, &mut waits);
-    order.place_sources(cells)?;
-    order.place_readers(0, Reads::All, &mut waits, gates, flops)?;
-    order.place_loops(&mut waits, gates, flops)?;
-    order.place_rest()?;
-    Ok(order)
+    let Ok(mut waits) = vec![in alloc; 0; cells.len()] else {
+        drop(order);
+        return Err(AllocError);
+    };
+    let placed = order.place_all(cells, &mut waits, gates, flops);
+    drop(waits);
+    match placed {
+        Ok(()) => Ok(order),
+        Err(error) => {
+            drop(order);
+            Err(error)
+        }
+    }
 }

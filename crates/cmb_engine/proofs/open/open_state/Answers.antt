@@ -23,12 +23,12 @@ returns-clause-state c =
     c.in_ok-words.ensures.len ∙ ap (λ (ls : List Pin). nets_of c.args.design.now + length ls) c.deref-2.ensures.value ∙ sym c.requires.plan.count in
     record {
       slots = slots;
-      live_room = omega (arith, c.in_ok-live.ensures.room, c.len.ensures, slots);
-      marks_room = omega (arith, c.in_ok-marks.ensures.room, c.len-2.ensures, slots);
+      live_room = omega (arith, c.in-Ok-all_below.ensures.room, c.len.ensures, slots);
+      marks_room = omega (arith, c.in-Ok-new.ensures.room, c.len-2.ensures, slots);
       shows = words-show c.args.design.now circuit words c.deref.result.now c.deref-2.result.now c.requires c.deref.ensures.value c.deref-2.ensures.value c.in_ok-words.ensures.shows;
       quiet = λ slot place small none inside.
-          absurd (false≢true (sym none ∙ c.in_ok-live.ensures.all slot (omega (arith, small, c.len.ensures, slots))));
-      ahead = c.in_ok-calendar.ensures.ahead;
+          absurd (false≢true (sym none ∙ c.in-Ok-all_below.ensures.all slot (omega (arith, small, c.len.ensures, slots))));
+      ahead = c.in-Ok.ensures.ahead;
       begun = omega arith;
-      within = c.in_ok-calendar.ensures.begun;
+      within = c.in-Ok.ensures.begun;
     }

@@ -1,5 +1,9 @@
-use Rattle.cmb_engine.proofs.BitFacts.{take-left, take-members, take-taken}
+use Rattle.cmb_engine.proofs.BitFacts.{take-left, take-less, take-members, take-taken}
 use Rattle.cmb_engine.proofs.bits.Bits.take.Goals as goal
+
+pub returns-clause-less : goal.returns-clause-less
+returns-clause-less c =
+    take-less c.self.inside.words.items c.args.self.now c.self.view_is c.args.k c.index-word.result.now c.args.mask c.index-word.ensures c.requires c.ranges.mask.fits
 
 pub returns-clause-left : goal.returns-clause-left
 returns-clause-left c =

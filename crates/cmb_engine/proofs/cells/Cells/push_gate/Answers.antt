@@ -1,7 +1,12 @@
 use Rattle.std.proofs.Common.{◌≡◌, ◌++◌, ◌∷◌, [], List, length, ap, ◌∙◌, arith}
 use Rattle.cmb_engine.specs.Inner.Cells.{Cell, Gate}
-use Rattle.cmb_engine.proofs.TableFacts.{gate_cells, gate_inside}
+use Rattle.cmb_engine.proofs.TableFacts.{all_inside_more, gate_cells, gate_inside}
 use Rattle.cmb_engine.proofs.cells.Cells.push_gate.Goals as goal
+
+pub invariant_of-self-in_err-push : goal.invariant_of-self-in_err-push
+invariant_of-self-in_err-push c =
+    rw (c.in_ok-extend_from_slice.ensures.items, c.in_err-push.ensures.items)
+    (all_inside_more c.self.inside.pins.items c.args.pins.now c.self.inside.rules.items c.self.invariant)
 
 pub invariant_of-self-2 : goal.invariant_of-self-2
 invariant_of-self-2 c =

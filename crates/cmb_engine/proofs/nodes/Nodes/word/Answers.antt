@@ -9,7 +9,7 @@ use Rattle.cmb_engine.specs.Inner.Tables.{pins_at}
 use Rattle.cmb_engine.specs.Inner.Words.{levels_of}
 use Rattle.cmb_engine.specs.declared.cell.Pin.{Pin}
 use Rattle.cmb_engine.specs.declared.nodes.NodeRule.TheVariants as rule
-use Rattle.cmb_engine.proofs.NodeFacts.{gate-lawful, double-within, both-seen, double-lawful, double-read, node-read, single-read}
+use Rattle.cmb_engine.proofs.NodeFacts.{flop-lawful, flop-read, gate-lawful, double-within, both-seen, double-lawful, double-read, node-read, single-read}
 use Rattle.cmb_engine.proofs.WordFacts.{levels_of-read}
 use Rattle.cmb_engine.proofs.nodes.Nodes.word.Goals as goal
 
@@ -137,3 +137,29 @@ gate_word-requires-clause-within c =
     gate-lawful inside.pins.items inside.samplers.items inside.nodes.items c.args.self.now c.self.view_is c.args.rank c.requires.rank c.index.result.now c.index.ensures
     (length c.args.words.now) c.args.first c.in-Gate.kind part c.in-Gate.is c.requires.cell in
     subst (All (λ (p : Pin). p.delay ≤ c.args.first)) (sym here) lawful.2
+
+pub returns-in-Flop-clause-made : goal.returns-in-Flop-clause-made
+returns-in-Flop-clause-made c = λ place from small.
+    let inside = c.self.inside in
+    c.flop_word.ensures.from place from small
+    ∙ ap (λ (cell : Cell). cell_level (levels_of c.args.words.now) (level_at_place c.flop_word.result) c.args.to cell place)
+    (sym (flop-read inside.pins.items inside.samplers.items inside.nodes.items c.args.self.now c.self.view_is c.args.rank c.requires.rank c.index.result.now c.index.ensures c.self.invariant
+    c.in-Flop.number c.index-in-Flop.result.now c.in-Flop.is c.index-in-Flop.ensures))
+
+pub flop_word-requires-clause-clock : goal.flop_word-requires-clause-clock
+flop_word-requires-clause-clock c =
+    let inside = c.self.inside in
+    (flop-lawful inside.pins.items inside.samplers.items inside.nodes.items c.args.self.now c.self.view_is c.args.rank c.requires.rank c.index.result.now c.index.ensures c.self.invariant
+    (length c.args.words.now) c.args.first c.in-Flop.number c.index-in-Flop.result.now c.in-Flop.is c.index-in-Flop.ensures c.requires.cell).0
+
+pub flop_word-requires-clause-net : goal.flop_word-requires-clause-net
+flop_word-requires-clause-net c =
+    let inside = c.self.inside in
+    (flop-lawful inside.pins.items inside.samplers.items inside.nodes.items c.args.self.now c.self.view_is c.args.rank c.requires.rank c.index.result.now c.index.ensures c.self.invariant
+    (length c.args.words.now) c.args.first c.in-Flop.number c.index-in-Flop.result.now c.in-Flop.is c.index-in-Flop.ensures c.requires.cell).1
+
+pub flop_word-requires-clause-delay : goal.flop_word-requires-clause-delay
+flop_word-requires-clause-delay c =
+    let inside = c.self.inside in
+    (flop-lawful inside.pins.items inside.samplers.items inside.nodes.items c.args.self.now c.self.view_is c.args.rank c.requires.rank c.index.result.now c.index.ensures c.self.invariant
+    (length c.args.words.now) c.args.first c.in-Flop.number c.index-in-Flop.result.now c.in-Flop.is c.index-in-Flop.ensures c.requires.cell).2
