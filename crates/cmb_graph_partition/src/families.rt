@@ -9,6 +9,9 @@ use std::alloc::{AllocError, Global};
 /// No net has this number.
 pub(crate) const NO_NET: u32 = u32::MAX;
 
+// The first class. It is that of nets whose class is still to be found, too.
+const INPUTS: u32 = 0;
+
 /// The nets of a netlist in classes. Each flip-flop is one, and each net that nothing reads: these are the sinks. A
 /// gate is of its readers' class where all are of one; else it begins a class, whose parents are those of its readers.
 /// What a component of gates has together is of one class. All inputs are of the first class, that has no parents.
@@ -51,25 +54,25 @@ fn add_flops(families: &mut Families, netlist: &Netlist) -> Result<(), AllocErro
     Ok(())
 }
 
-// Adds a class, unless it was the last that was added.
-fn note(found: &mut Vec<u32>, class: u32) -> Result<(), AllocError> {
-    if found.last() != Some(&class) {
-        found.push(class)?;
+// Whether a class was the last that was added.
+fn is_last(found: &[u32], class: u32) -> bool {
+    match found.last() {
+        None => false,
+        Some(last) => *last == class,
     }
-    Ok(())
 }
 
-// Adds the classes of those that read a net from outside its component.
+// Adds the classes of those that read a net from outside its component: those inside have no class of their own yet.
 fn note_readers(
     found: &mut Vec<u32>,
     classes: &[u32],
     reader_graph: &ReaderGraph,
     net: usize,
 ) -> Result<(), AllocError> {
-    let number = reader_graph.numbers.get(net);
     for reader in reader_graph.readers.of(net) {
-        if reader_graph.numbers.get(*reader as usize) != number {
-            note(found, at(classes, *reader))?;
+        let class = at(classes, *reader);
+        if class != INPUTS && !is_last(found, class) {
+            found.push(class)?;
         }
     }
     Ok(())
@@ -209,7 +212,7 @@ fn families_with(
     reader_graph: &ReaderGraph,
 ) -> Result<Families, AllocError> {
     let mut families = Families {
-        of_nets: vec![in alloc; 0u32; netlist.len()]?,
+        of_nets: vec![in alloc; INPUTS; netlist.len()]?,
         sinks: Vec::new(alloc),
         parents: Lists::new(alloc),
         imports: Vec::new(alloc),

@@ -10,9 +10,8 @@ use std::alloc::{AllocError, Global};
 pub(crate) struct ReaderGraph {
     /// For each net those that read it.
     pub readers: Lists,
-    /// For each net the number of its strongly connected component, where steps through flip-flops don't count.
-    pub numbers: Vec<usize>,
-    /// For each number the nets of its component. Gates read none of higher numbers.
+    /// For each number the nets of the strongly connected component that has it, where steps through flip-flops don't
+    /// count. Gates read none of higher numbers.
     pub members: Lists,
 }
 
@@ -24,13 +23,16 @@ fn readers_of(alloc: Global, netlist: &Netlist) -> Result<Lists, AllocError> {
     operands.turned(alloc, netlist.len())
 }
 
+// For each number the nets of its component.
+fn members_of(alloc: Global, netlist: &Netlist) -> Result<Lists, AllocError> {
+    let numbers = strong_components(alloc, netlist, Steps::Gates)?;
+    Lists::by_number(alloc, &numbers)
+}
+
 /// Which nets each net feeds, with the components, of a netlist.
 pub(crate) fn reader_graph_of(alloc: Global, netlist: &Netlist) -> Result<ReaderGraph, AllocError> {
-    let numbers = strong_components(alloc, netlist, Steps::Gates)?;
-    let members = Lists::by_number(alloc, &numbers)?;
     Ok(ReaderGraph {
+        members: members_of(alloc, netlist)?,
         readers: readers_of(alloc, netlist)?,
-        numbers,
-        members,
     })
 }
