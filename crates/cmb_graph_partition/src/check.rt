@@ -25,8 +25,8 @@ fn owners_drive(netlist: &Netlist, partition: &Partition) -> bool
     true
 }
 
-// Whether a net is driven by a flip-flop.
-fn is_flop(netlist: &Netlist, net: usize) -> bool
+/// Whether a net is driven by a flip-flop.
+pub(crate) fn is_flop(netlist: &Netlist, net: usize) -> bool
     requires { net < length netlist.now.names }
     ensures { result ≡ true → IsFlop netlist.now net }
 {

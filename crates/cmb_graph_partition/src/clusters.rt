@@ -1,10 +1,8 @@
 //! Clusters of sinks that need the same heavy classes.
 
-ghost use Rattle.std.specs.Prelude.{◌≡◌, ◌<◌, ◌≤◌, ◌^◌, ℕ, length, All, IfOk};
-ghost use Rattle.cmb_graph_partition.specs.Inner.Shapes.{AreClasses, IsForest};
-
 use crate::classes::Classes;
 use crate::forest::{flatten, trees_of_one, unite_all, weight_within};
+use crate::lists::all_at;
 use crate::seen_set::SeenSet;
 use std::alloc::{AllocError, Global};
 
@@ -16,40 +14,24 @@ pub(crate) struct Weighed {
 }
 
 /// Puts the heaviest first.
-pub(crate) fn from_heaviest(list: &mut Vec<Weighed>) -> Result<(), AllocError>
-    ensures { (bound : ℕ) → All (λ weighed. weighed.number < bound) list.old.items
-        → All (λ weighed. weighed.number < bound) list.new.items }
-{
+pub(crate) fn from_heaviest(list: &mut Vec<Weighed>) -> Result<(), AllocError> {
     list.sort_by_key(|weighed| u32::MAX - weighed.weight)
 }
 
 /// The classes that several sinks need, the heaviest first.
-pub(crate) fn shared_classes(alloc: Global, classes: &Classes) -> Result<Vec<Weighed>, AllocError>
-    requires { length classes.now.weights.items < 2 ^ 32 }
-{
+pub(crate) fn shared_classes(alloc: Global, classes: &Classes) -> Result<Vec<Weighed>, AllocError> {
     let mut shared = Vec::new(alloc);
-    for class in 0..classes.weights.len() {
-        if classes.needed.of(class).len() > 1 {
+    let mut number = 0_u32;
+    for weight in &classes.weights {
+        if classes.cones.needed.of(number as usize).len() > 1 {
             shared.push(Weighed {
-                number: class as u32,
-                weight: classes.weights[class],
+                number,
+                weight: *weight,
             })?;
         }
+        number = number.wrapping_add(1);
     }
-    from_heaviest(&mut shared)?;
-    Ok(shared)
-}
-
-// What each sink's class weighs.
-fn weights_of(alloc: Global, classes: &Classes) -> Result<Vec<u32>, AllocError>
-    requires { All (λ class. class < length classes.now.weights.items) classes.now.of_sinks.items }
-    ensures { IfOk result (λ weights. length weights.items ≡ length classes.now.of_sinks.items) }
-{
-    let mut weights = Vec::with_capacity(alloc, classes.of_sinks.len())?;
-    for class in &classes.of_sinks {
-        weights.push(classes.weights[*class as usize])?;
-    }
-    Ok(weights)
+    from_heaviest(&mut shared).and(Ok(shared))
 }
 
 /// Clusters that weigh no more than that, as the root of each sink: from the heaviest class on, the sinks that need it
@@ -59,17 +41,13 @@ pub(crate) fn clusters_within(
     classes: &Classes,
     shared: &[Weighed],
     most: u32,
-) -> Result<Vec<u32>, AllocError>
-    requires { AreClasses (length classes.now.of_nets.items) classes.now }
-    ensures long { IfOk result (λ roots. length roots.items ≡ length classes.now.of_sinks.items) }
-    ensures forest { IfOk result (λ roots. IsForest roots.items) }
-{
-    let count = classes.of_sinks.len();
-    let mut roots = trees_of_one(alloc, count)?;
-    let mut weights = weights_of(alloc, classes)?;
-    let mut seen = SeenSet::new(alloc, count)?;
+) -> Result<Vec<u32>, AllocError> {
+    let of_sinks = &classes.cones.sinks.classes;
+    let mut seen = SeenSet::new(alloc, of_sinks.len())?;
+    let mut weights = all_at(alloc, &classes.weights, of_sinks)?;
+    let mut roots = trees_of_one(alloc, of_sinks.len())?;
     for class in shared {
-        let sinks = classes.needed.of(class.number as usize);
+        let sinks = classes.cones.needed.of(class.number as usize);
         let sum = weight_within(&mut roots, &weights, &mut seen, sinks, class.weight, most);
         if let Some(weight) = sum {
             unite_all(&mut roots, &mut weights, sinks, weight);

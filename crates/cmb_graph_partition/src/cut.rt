@@ -1,15 +1,16 @@
 //! The nets of a netlist partitioned into so many shares at most.
 
-ghost use Rattle.std.specs.Prelude.{◌≡◌, ◌≤◌, ◌<◌, length, All, IfOk, IfSome};
+ghost use Rattle.std.specs.Prelude.{◌≡◌, ◌≤◌, length, IfOk, IfSome};
 ghost use Rattle.cmb_graph_partition.specs.Partitions.{IsPartition};
-ghost use Rattle.cmb_graph_partition.specs.Inner.Shapes.{AreClasses, IsShaped};
+ghost use Rattle.cmb_graph_partition.specs.Inner.Shapes.{IsShaped};
 
 use crate::check::is_lawful;
 use crate::classes::Classes;
 use crate::clusters::{clusters_within, shared_classes};
 use crate::driven::partition_by;
 use crate::forest::trees_of_one;
-use crate::members::{classes_of, members_of};
+use crate::lists::{Lists, at};
+use crate::members::members_of;
 use crate::moves::Placement;
 use crate::parts::{PartNumber, Parts, Place};
 use crate::reach::Search;
@@ -35,10 +36,7 @@ fn total_of(weights: &[u32]) -> u32 {
 
 // Clusters that are small beside an even share, as the root of each sink.
 fn roots_within(alloc: Global, classes: &Classes, count: u32) -> Result<Vec<u32>, AllocError>
-    requires some { 1 ≤ count }
-    requires classes { AreClasses (length classes.now.of_nets.items) classes.now }
-    ensures long { IfOk result (λ roots. length roots.items ≡ length classes.now.of_sinks.items) }
-    ensures below { IfOk result (λ roots. All (λ root. root < length roots.items) roots.items) }
+    requires { 1 ≤ count }
 {
     let shared = shared_classes(alloc, classes)?;
     let even = total_of(&classes.weights) / count;
@@ -46,13 +44,10 @@ fn roots_within(alloc: Global, classes: &Classes, count: u32) -> Result<Vec<u32>
 }
 
 // The sinks that are roots.
-fn roots_of(alloc: Global, roots: &[u32], sinks: &[u32]) -> Result<Vec<u32>, AllocError>
-    requires { All (λ sink. sink < length roots.now) sinks.now }
-    ensures { IfOk result (λ found. All (λ sink. sink < length roots.now) found.items) }
-{
+fn roots_of(alloc: Global, roots: &[u32], sinks: &[u32]) -> Result<Vec<u32>, AllocError> {
     let mut found = Vec::new(alloc);
     for sink in sinks {
-        if roots[*sink as usize] == *sink {
+        if at(roots, *sink) == *sink {
             found.push(*sink)?;
         }
     }
@@ -64,47 +59,73 @@ fn spread(
     alloc: Global,
     roots: &[u32],
     places: &[Place],
-) -> Result<Vec<Option<PartNumber>>, AllocError>
-    requires { All (λ root. root < length places.now) roots.now }
-    ensures { IfOk result (λ spread. length spread.items ≡ length roots.now) }
-{
+) -> Result<Vec<Option<PartNumber>>, AllocError> {
     let mut spread = Vec::with_capacity(alloc, roots.len())?;
     for root in roots {
-        spread.push(places[*root as usize].part)?;
+        spread.push(match places.get(*root as usize) {
+            None => None,
+            Some(place) => place.part,
+        })?;
     }
     Ok(spread)
+}
+
+// Clusters of sinks.
+#[derive(Clone, Copy)]
+struct Clusters<'a> {
+    // For each sink its cluster, which is named by a sink, its root.
+    roots: &'a [u32],
+    // All clusters.
+    all: &'a [u32],
+    // For each class the clusters that need it.
+    needed: &'a Lists,
+}
+
+// What is in each part, with clusters moved. Those that aren't in a part yet are put into one.
+fn placed(
+    alloc: Global,
+    classes: &Classes,
+    clusters: &Clusters,
+    count: u32,
+    found: &[Option<PartNumber>],
+) -> Result<Parts, AllocError>
+    requires { count ≤ 16 }
+{
+    let of_sinks = &classes.cones.sinks.classes;
+    let starts = Lists::grouped(alloc, clusters.roots, of_sinks, of_sinks.len())?;
+    let placement = Placement {
+        weights: &classes.weights,
+        needed: clusters.needed,
+        starts: &starts,
+        children: &classes.cones.children,
+        count,
+    };
+    let mut search = Search::new(alloc, classes.weights.len())?;
+    let mut parts = placement.parts_with(alloc, of_sinks.len(), found)?;
+    placement.insert_all(alloc, &mut search, &mut parts, clusters.all)?;
+    placement.refine(&mut search, &mut parts, clusters.all);
+    Ok(parts)
 }
 
 // For each sink the part of its cluster, with clusters put into parts and moved.
 fn rough(
     alloc: Global,
     classes: &Classes,
-    roots: &[u32],
     count: u32,
 ) -> Result<Vec<Option<PartNumber>>, AllocError>
+    requires some { 1 ≤ count }
     requires few { count ≤ 16 }
-    requires classes { AreClasses (length classes.now.of_nets.items) classes.now }
-    requires long { length roots.now ≡ length classes.now.of_sinks.items }
-    requires roots { All (λ root. root < length roots.now) roots.now }
-    ensures { IfOk result (λ found. length found.items ≡ length classes.now.of_sinks.items) }
 {
-    let members = members_of(alloc, classes, roots)?;
-    let starts = classes_of(alloc, classes, roots)?;
-    let placement = Placement {
-        weights: &classes.weights,
-        needed: &members,
-        starts: &starts,
-        children: &classes.children,
-        bound: roots.len(),
-        count,
+    let roots = roots_within(alloc, classes, count)?;
+    let all = roots_of(alloc, &roots, &classes.cones.sinks.in_order)?;
+    let needed = members_of(alloc, &classes.cones.needed, &roots)?;
+    let clusters = Clusters {
+        roots: &roots,
+        all: &all,
+        needed: &needed,
     };
-    let clusters = roots_of(alloc, roots, &classes.sinks)?;
-    let nowhere = vec![in alloc; None; roots.len()]?;
-    let mut parts = placement.parts_with(alloc, &nowhere)?;
-    let mut search = Search::new(alloc, classes.weights.len())?;
-    placement.insert_all(alloc, &mut search, &mut parts, &clusters)?;
-    placement.refine(&mut search, &mut parts, &clusters);
-    spread(alloc, roots, &parts.places)
+    let parts = placed(alloc, classes, &clusters, count, &[])?;
+    spread(alloc, &roots, &parts.places)
 }
 
 // What is in each part, with single sinks moved.
@@ -114,25 +135,15 @@ fn refined(
     count: u32,
     found: &[Option<PartNumber>],
 ) -> Result<Parts, AllocError>
-    requires few { count ≤ 16 }
-    requires classes { AreClasses (length classes.now.of_nets.items) classes.now }
-    requires found { length found.now ≡ length classes.now.of_sinks.items }
-    ensures { IfOk result (λ parts. length parts.counts.items ≡ length classes.now.weights.items) }
+    requires { count ≤ 16 }
 {
-    let singles = trees_of_one(alloc, classes.of_sinks.len())?;
-    let starts = classes_of(alloc, classes, &singles)?;
-    let placement = Placement {
-        weights: &classes.weights,
-        needed: &classes.needed,
-        starts: &starts,
-        children: &classes.children,
-        bound: classes.of_sinks.len(),
-        count,
+    let singles = trees_of_one(alloc, classes.cones.sinks.classes.len())?;
+    let clusters = Clusters {
+        roots: &singles,
+        all: &classes.cones.sinks.in_order,
+        needed: &classes.cones.needed,
     };
-    let mut parts = placement.parts_with(alloc, found)?;
-    let mut search = Search::new(alloc, classes.weights.len())?;
-    placement.refine(&mut search, &mut parts, &classes.sinks);
-    Ok(parts)
+    placed(alloc, classes, &clusters, count, found)
 }
 
 // The partition into so many parts, before it is checked.
@@ -144,14 +155,19 @@ fn cut(
 ) -> Result<Partition, AllocError>
     requires some { 1 ≤ count }
     requires few { count ≤ 16 }
-    requires classes { AreClasses (length netlist.now.names) classes.now }
+    requires nets { length classes.now.families.of_nets.items ≡ length netlist.now.names }
     ensures shaped { IfOk result (IsShaped netlist.now) }
     ensures count { IfOk result (λ partition. length partition.shares.items ≡ count) }
 {
-    let roots = roots_within(alloc, classes, count)?;
-    let found = rough(alloc, classes, &roots, count)?;
+    let found = rough(alloc, classes, count)?;
     let parts = refined(alloc, classes, count, &found)?;
-    partition_by(alloc, netlist, &classes.of_nets, &parts.counts, count)
+    partition_by(
+        alloc,
+        netlist,
+        &classes.families.of_nets,
+        &parts.counts,
+        count,
+    )
 }
 
 // Whether a share has nothing to drive.
@@ -195,12 +211,16 @@ pub fn partition(
     ensures few { IfOk result (λ found. IfSome found (λ partition. length partition.shares.items ≤ most)) }
 {
     let classes = structure.weighed(alloc, costs)?;
-    let count = count_for(most, &classes.sinks);
+    let count = count_for(most, &classes.cones.sinks.in_order);
     if count < 2 {
+        drop(classes);
         return Ok(None);
     }
-    let partition = cut(alloc, netlist, &classes, count)?;
+    let found = cut(alloc, netlist, &classes, count);
+    drop(classes);
+    let partition = found?;
     if !is_lawful(netlist, &partition) || partition.shares.iter().any(is_idle) {
+        drop(partition);
         return Ok(None);
     }
     Ok(Some(partition))

@@ -4,6 +4,7 @@ ghost use Rattle.std.specs.Prelude.{◌≡◌, ◌<◌, ◌≤◌, length, All, 
 ghost use Rattle.cmb_netlist.specs.Netlist.{IsNetlist};
 ghost use Rattle.cmb_graph_partition.specs.Inner.Shapes.{IsShaped};
 
+use crate::lists::all_at;
 use crate::shares::{Partition, Share};
 use cmb_graph::{Steps, targets_from};
 use cmb_netlist::{Driver, Netlist};
@@ -23,25 +24,12 @@ fn set_of(counts: &[u16; 16], count: u32) -> u32
 // For each class the parts with clusters that need it.
 fn sets_of_classes(alloc: Global, counts: &[[u16; 16]], count: u32) -> Result<Vec<u32>, AllocError>
     requires { count ≤ 16 }
-    ensures { IfOk result (λ sets. length sets.items ≡ length counts.now) }
 {
     let mut sets = Vec::with_capacity(alloc, counts.len())?;
     for one in counts {
         sets.push(set_of(one, count))?;
     }
     Ok(sets)
-}
-
-// The sets of nets, which are those of their classes.
-fn spread(alloc: Global, classes: &[u32], sets: &[u32]) -> Result<Vec<u32>, AllocError>
-    requires { All (λ class. class < length sets.now) classes.now }
-    ensures { IfOk result (λ spread. length spread.items ≡ length classes.now) }
-{
-    let mut spread = Vec::with_capacity(alloc, classes.len())?;
-    for class in classes {
-        spread.push(sets[*class as usize])?;
-    }
-    Ok(spread)
 }
 
 // Whether a net is an input.
@@ -168,12 +156,12 @@ pub(crate) fn partition_by(
     requires some { 1 ≤ count }
     requires few { count ≤ 16 }
     requires nets { length classes.now ≡ length netlist.now.names }
-    requires classes { All (λ class. class < length counts.now) classes.now }
     ensures shaped { IfOk result (IsShaped netlist.now) }
     ensures count { IfOk result (λ partition. length partition.shares.items ≡ count) }
 {
     let of_classes = sets_of_classes(alloc, counts, count)?;
-    let mut sets = spread(alloc, classes, &of_classes)?;
+    let mut sets = all_at(alloc, &of_classes, classes)?;
+    drop(of_classes);
     let crossing = crossing_of(alloc, netlist, &mut sets)?;
     add_unread(&mut sets);
     let owners = owners_of(alloc, &sets, count)?;

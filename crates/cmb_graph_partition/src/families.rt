@@ -1,15 +1,16 @@
 //! Classes of nets that are read by the same.
 
-ghost use Rattle.std.specs.Prelude.{◌≡◌, ◌<◌, length, All, IfOk, OnOk};
-ghost use Rattle.cmb_graph_partition.specs.Inner.Shapes.{IsReaderGraph};
-
-use crate::lists::Lists;
-use crate::reader_graph::ReaderGraph;
+use crate::check::is_flop;
+use crate::lists::{Lists, at, set};
+use crate::reader_graph::{ReaderGraph, reader_graph_of};
 use cmb_netlist::{Driver, Netlist};
 use std::alloc::{AllocError, Global};
 
 /// No net has this number.
 pub(crate) const NO_NET: u32 = u32::MAX;
+
+// The first class. It is that of nets whose class is still to be found, too.
+const INPUTS: u32 = 0;
 
 /// The nets of a netlist in classes. Each flip-flop is one, and each net that nothing reads: these are the sinks. A
 /// gate is of its readers' class where all are of one; else it begins a class, whose parents are those of its readers.
@@ -17,7 +18,7 @@ pub(crate) const NO_NET: u32 = u32::MAX;
 #[derive(Drop)]
 pub(crate) struct Families {
     /// For each net its class.
-    pub classes: Vec<u32>,
+    pub of_nets: Vec<u32>,
     /// For each class the net that is its sink, if it has one; else `NO_NET`.
     pub sinks: Vec<u32>,
     /// For each class its parents. Their numbers are lower.
@@ -32,9 +33,7 @@ fn begin(
     sink: u32,
     parents: &[u32],
     import: u32,
-) -> Result<u32, AllocError>
-    ensures { families.new.classes ≡ families.old.classes }
-{
+) -> Result<u32, AllocError> {
     let Ok(class) = u32::try_from(families.imports.len()) else {
         return Err(AllocError);
     };
@@ -45,41 +44,35 @@ fn begin(
 }
 
 // Each flip-flop is a class.
-fn add_flops(families: &mut Families, netlist: &Netlist) -> Result<(), AllocError>
-    requires { length families.old.classes.items ≡ length netlist.now.names }
-    ensures { OnOk result (length families.new.classes.items ≡ length netlist.now.names) }
-{
+fn add_flops(families: &mut Families, netlist: &Netlist) -> Result<(), AllocError> {
     for net in 0..netlist.len() {
-        if matches!(netlist.driver(net), Driver::Flop(_)) {
+        if is_flop(netlist, net) {
             let class = begin(families, net as u32, &[], NO_NET)?;
-            families.classes[net] = class;
+            set(&mut families.of_nets, net as u32, class);
         }
     }
     Ok(())
 }
 
-// Adds a class, unless it was the last that was added.
-fn note(found: &mut Vec<u32>, class: u32) -> Result<(), AllocError> {
-    if found.last() != Some(&class) {
-        found.push(class)?;
+// Whether a class was the last that was added.
+fn is_last(found: &[u32], class: u32) -> bool {
+    match found.last() {
+        None => false,
+        Some(last) => *last == class,
     }
-    Ok(())
 }
 
-// Adds the classes of those that read a net from outside its component.
+// Adds the classes of those that read a net from outside its component: those inside have no class of their own yet.
 fn note_readers(
     found: &mut Vec<u32>,
     classes: &[u32],
     reader_graph: &ReaderGraph,
     net: usize,
-) -> Result<(), AllocError>
-    requires reader_graph { IsReaderGraph (length classes.now) reader_graph.now }
-    requires net { net < length classes.now }
-{
-    let number = reader_graph.numbers[net];
+) -> Result<(), AllocError> {
     for reader in reader_graph.readers.of(net) {
-        if reader_graph.numbers[*reader as usize] != number {
-            note(found, classes[*reader as usize])?;
+        let class = at(classes, *reader);
+        if class != INPUTS && !is_last(found, class) {
+            found.push(class)?;
         }
     }
     Ok(())
@@ -99,10 +92,7 @@ fn find_parents(
     classes: &[u32],
     reader_graph: &ReaderGraph,
     nets: &[u32],
-) -> Result<(), AllocError>
-    requires reader_graph { IsReaderGraph (length classes.now) reader_graph.now }
-    requires nets { All (λ net. net < length classes.now) nets.now }
-{
+) -> Result<(), AllocError> {
     found.clear();
     for net in nets {
         note_readers(found, classes, reader_graph, *net as usize)?;
@@ -112,9 +102,7 @@ fn find_parents(
 }
 
 // The class of a component of gates with these parents.
-fn class_of(families: &mut Families, first: u32, parents: &[u32]) -> Result<u32, AllocError>
-    ensures { families.new.classes ≡ families.old.classes }
-{
+fn class_of(families: &mut Families, first: u32, parents: &[u32]) -> Result<u32, AllocError> {
     match parents {
         [] => begin(families, first, &[], NO_NET),
         [parent] => Ok(*parent),
@@ -123,19 +111,16 @@ fn class_of(families: &mut Families, first: u32, parents: &[u32]) -> Result<u32,
 }
 
 // Gives nets a class.
-fn put_all(classes: &mut [u32], nets: &[u32], class: u32)
-    requires { All (λ net. net < length classes.old) nets.now }
-{
+fn put_all(classes: &mut [u32], nets: &[u32], class: u32) {
     for net in nets {
-        classes[*net as usize] = class;
+        set(classes, *net, class);
     }
 }
 
 // Whether a net is driven by a gate.
-fn is_gate(netlist: &Netlist, net: u32) -> bool
-    requires { net < length netlist.now.names }
-{
-    matches!(netlist.driver(net as usize), Driver::Gate(_, _))
+fn is_gate(netlist: &Netlist, net: u32) -> bool {
+    let net = net as usize;
+    net < netlist.len() && matches!(netlist.driver(net), Driver::Gate(_, _))
 }
 
 // Finds the class of a component, if it is of gates.
@@ -145,37 +130,27 @@ fn add_component(
     netlist: &Netlist,
     reader_graph: &ReaderGraph,
     nets: &[u32],
-) -> Result<(), AllocError>
-    requires long { length families.old.classes.items ≡ length netlist.now.names }
-    requires reader_graph { IsReaderGraph (length netlist.now.names) reader_graph.now }
-    requires nets { All (λ net. net < length netlist.now.names) nets.now }
-    ensures { OnOk result (length families.new.classes.items ≡ length netlist.now.names) }
-{
+) -> Result<(), AllocError> {
     if let Some(first) = nets.first()
         && is_gate(netlist, *first)
     {
-        find_parents(found, &families.classes, reader_graph, nets)?;
+        find_parents(found, &families.of_nets, reader_graph, nets)?;
         let class = class_of(families, *first, found)?;
-        put_all(&mut families.classes, nets, class);
+        put_all(&mut families.of_nets, nets, class);
     }
     Ok(())
 }
 
 // Finds the classes of gates. Readers come before what they read, which has lower numbers.
 fn add_gates(
-    alloc: Global,
+    found: &mut Vec<u32>,
     families: &mut Families,
     netlist: &Netlist,
     reader_graph: &ReaderGraph,
-) -> Result<(), AllocError>
-    requires long { length families.old.classes.items ≡ length netlist.now.names }
-    requires reader_graph { IsReaderGraph (length netlist.now.names) reader_graph.now }
-    ensures { OnOk result (length families.new.classes.items ≡ length netlist.now.names) }
-{
-    let mut found = Vec::new(alloc);
+) -> Result<(), AllocError> {
     for number in (0..netlist.len()).rev() {
         add_component(
-            &mut found,
+            found,
             families,
             netlist,
             reader_graph,
@@ -185,63 +160,68 @@ fn add_gates(
     Ok(())
 }
 
-// Finds what the import of a flip-flop is for: itself, and all that read it.
-fn find_importers(
+// A share that reads a flip-flop of another is given it, at about half of what it costs to make it. So each flip-flop
+// has one more class, of which no net is: it is needed where the flip-flop is made and where it is read.
+fn add_import(
     found: &mut Vec<u32>,
-    classes: &[u32],
+    families: &mut Families,
     reader_graph: &ReaderGraph,
-    net: usize,
-) -> Result<(), AllocError>
-    requires reader_graph { IsReaderGraph (length classes.now) reader_graph.now }
-    requires net { net < length classes.now }
-{
+    flop: u32,
+) -> Result<(), AllocError> {
     found.clear();
-    found.push(classes[net])?;
-    note_readers(found, classes, reader_graph, net)?;
+    found.push(at(&families.of_nets, flop))?;
+    note_readers(found, &families.of_nets, reader_graph, flop as usize)?;
     put_in_order(found);
+    begin(families, NO_NET, found, flop)?;
     Ok(())
 }
 
-// A share that reads a flip-flop of another is given it, at about half of what it costs to make it. So each flip-flop
-// has one more class, of which no net is: it is needed where the flip-flop is made and where it is read.
+// Each flip-flop's import is a class.
 fn add_imports(
-    alloc: Global,
+    found: &mut Vec<u32>,
     families: &mut Families,
     netlist: &Netlist,
     reader_graph: &ReaderGraph,
-) -> Result<(), AllocError>
-    requires long { length families.old.classes.items ≡ length netlist.now.names }
-    requires reader_graph { IsReaderGraph (length netlist.now.names) reader_graph.now }
-    ensures { OnOk result (length families.new.classes.items ≡ length netlist.now.names) }
-{
-    let mut found = Vec::new(alloc);
+) -> Result<(), AllocError> {
     for net in 0..netlist.len() {
-        if matches!(netlist.driver(net), Driver::Flop(_)) {
-            find_importers(&mut found, &families.classes, reader_graph, net)?;
-            let _ = begin(families, NO_NET, &found, net as u32)?;
+        if is_flop(netlist, net) {
+            add_import(found, families, reader_graph, net as u32)?;
         }
     }
     Ok(())
 }
 
-/// The classes of a netlist and, last, those of imports of flip-flops.
-pub(crate) fn families_of(
+// Finds the classes of nets and, last, those of imports of flip-flops.
+fn add_all(
+    alloc: Global,
+    families: &mut Families,
+    netlist: &Netlist,
+    reader_graph: &ReaderGraph,
+) -> Result<(), AllocError> {
+    begin(families, NO_NET, &[], NO_NET)?;
+    add_flops(families, netlist)?;
+    let mut found = Vec::new(alloc);
+    add_gates(&mut found, families, netlist, reader_graph)?;
+    add_imports(&mut found, families, netlist, reader_graph)
+}
+
+// The classes of a netlist whose reader graph this is.
+fn families_with(
     alloc: Global,
     netlist: &Netlist,
     reader_graph: &ReaderGraph,
-) -> Result<Families, AllocError>
-    requires reader_graph { IsReaderGraph (length netlist.now.names) reader_graph.now }
-    ensures { IfOk result (λ families. length families.classes.items ≡ length netlist.now.names) }
-{
+) -> Result<Families, AllocError> {
     let mut families = Families {
-        classes: vec![in alloc; 0u32; netlist.len()]?,
+        of_nets: vec![in alloc; INPUTS; netlist.len()]?,
         sinks: Vec::new(alloc),
         parents: Lists::new(alloc),
         imports: Vec::new(alloc),
     };
-    let _ = begin(&mut families, NO_NET, &[], NO_NET)?;
-    add_flops(&mut families, netlist)?;
-    add_gates(alloc, &mut families, netlist, reader_graph)?;
-    add_imports(alloc, &mut families, netlist, reader_graph)?;
-    Ok(families)
+    add_all(alloc, &mut families, netlist, reader_graph).and(Ok(families))
+}
+
+/// The classes of a netlist and, last, those of imports of flip-flops.
+pub(crate) fn families_of(alloc: Global, netlist: &Netlist) -> Result<Families, AllocError> {
+    let reader_graph = reader_graph_of(alloc, netlist)?;
+    families_with(alloc, netlist, &reader_graph)
 }

@@ -1,6 +1,6 @@
 //! Parts with clusters, what they weigh, and what it would cost to move clusters.
 
-ghost use Rattle.std.specs.Prelude.{◌≡◌, ◌+◌, ◌<◌, ◌≤◌, length, All, IfOk, OnOk};
+ghost use Rattle.std.specs.Prelude.{◌≡◌, ◌<◌};
 
 use std::alloc::{AllocError, Global};
 
@@ -55,10 +55,10 @@ fn cut_off(sum: u64) -> u32 {
 }
 
 impl Place {
-    /// The place of a cluster that is in that part, or in none, and needs nothing yet.
-    pub(crate) fn of(part: Option<PartNumber>) -> Place {
+    // The place of a cluster that is in no part and needs nothing yet.
+    fn nowhere() -> Place {
         Place {
-            part,
+            part: None,
             missing: [0; 16],
             alone: 0,
         }
@@ -71,15 +71,29 @@ impl Place {
             Some(own) => own.number == part.number,
         }
     }
+
+    // Notes a class that the cluster needs and so many clusters of each part: so much is missing where none does.
+    fn miss(&mut self, counts: &[u16; 16], weight: u64) {
+        for number in 0..16 {
+            if counts[number] == 0 {
+                self.missing[number] = self.missing[number].wrapping_add(weight);
+            }
+        }
+    }
+
+    /// What a cluster weighs that is in no part: all that it needs is missing in the first part, as in any.
+    pub(crate) fn weight(&self) -> u32 {
+        cut_off(self.missing[0])
+    }
 }
 
 // How many of some clusters are in each part.
-fn counts_among(places: &[Place], clusters: &[u32]) -> [u16; 16]
-    requires { All (λ cluster. cluster < length places.now) clusters.now }
-{
+fn counts_among(places: &[Place], clusters: &[u32]) -> [u16; 16] {
     let mut counts = [0_u16; 16];
     for cluster in clusters {
-        if let Some(part) = places[*cluster as usize].part {
+        if let Some(place) = places.get(*cluster as usize)
+            && let Some(part) = place.part
+        {
             let number = part.number as usize;
             counts[number] = counts[number].wrapping_add(1);
         }
@@ -87,23 +101,31 @@ fn counts_among(places: &[Place], clusters: &[u32]) -> [u16; 16]
     counts
 }
 
-// Adds so much to what none of a part needs, for each of some clusters.
-fn add_missing(places: &mut [Place], part: PartNumber, clusters: &[u32], weight: u64)
-    requires { All (λ cluster. cluster < length places.old) clusters.now }
-{
+// Notes a class that so many clusters of each part need, for each cluster that needs it.
+fn miss_all(places: &mut [Place], counts: &[u16; 16], clusters: &[u32], weight: u64) {
     for cluster in clusters {
-        let sum = &mut places[*cluster as usize].missing[part.number as usize];
-        *sum = sum.wrapping_add(weight);
+        if let Some(place) = places.get_mut(*cluster as usize) {
+            place.miss(counts, weight);
+        }
+    }
+}
+
+// Adds so much to what none of a part needs, for each of some clusters.
+fn add_missing(places: &mut [Place], part: PartNumber, clusters: &[u32], weight: u64) {
+    for cluster in clusters {
+        if let Some(place) = places.get_mut(*cluster as usize) {
+            let sum = &mut place.missing[part.number as usize];
+            *sum = sum.wrapping_add(weight);
+        }
     }
 }
 
 // Adds so much to what a cluster needs alone: that one of some clusters which is in a part.
-fn add_alone(places: &mut [Place], part: PartNumber, clusters: &[u32], weight: u64)
-    requires { All (λ cluster. cluster < length places.old) clusters.now }
-{
+fn add_alone(places: &mut [Place], part: PartNumber, clusters: &[u32], weight: u64) {
     for cluster in clusters {
-        let place = &mut places[*cluster as usize];
-        if place.is_in(part) {
+        if let Some(place) = places.get_mut(*cluster as usize)
+            && place.is_in(part)
+        {
             place.alone = place.alone.wrapping_add(weight);
             return;
         }
@@ -111,59 +133,43 @@ fn add_alone(places: &mut [Place], part: PartNumber, clusters: &[u32], weight: u
 }
 
 impl Parts {
-    /// Parts with clusters that need nothing yet, with room for so many classes.
-    pub(crate) fn new(
-        alloc: Global,
-        of: &[Option<PartNumber>],
-        classes: usize,
-    ) -> Result<Parts, AllocError>
-        ensures counts { IfOk result (λ parts. length parts.counts.items ≡ 0) }
-        ensures places { IfOk result (λ parts. length parts.places.items ≡ length of.now) }
-    {
-        let mut places = Vec::with_capacity(alloc, of.len())?;
-        for part in of {
-            places.push(Place::of(*part))?;
-        }
+    /// So many clusters, in no part, that need nothing yet of so many classes.
+    pub(crate) fn new(alloc: Global, clusters: usize, classes: usize) -> Result<Parts, AllocError> {
         Ok(Parts {
             loads: [0; 16],
-            counts: Vec::with_capacity(alloc, classes)?,
-            places,
+            counts: vec![in alloc; [0_u16; 16]; classes]?,
+            places: vec![in alloc; Place::nowhere(); clusters]?,
         })
     }
 
-    // Notes what a class weighs, of which so many of the clusters are in a part that need it.
-    fn weigh(&mut self, part: PartNumber, count: u16, clusters: &[u32], weight: u32)
-        requires { All (λ cluster. cluster < length self.old.places.items) clusters.now }
-        ensures counts { self.new.counts ≡ self.old.counts }
-        ensures places { length self.new.places.items ≡ length self.old.places.items }
-    {
-        let number = part.number as usize;
-        let more = u64::from(weight);
-        if count == 0 {
-            add_missing(&mut self.places, part, clusters, more);
-            return;
-        }
-        self.loads[number] = self.loads[number].saturating_add(weight);
-        if count == 1 {
-            add_alone(&mut self.places, part, clusters, more);
+    /// Puts the first clusters into parts, before any class is noted.
+    pub(crate) fn settle(&mut self, parts: &[Option<PartNumber>]) {
+        for cluster in 0..parts.len() {
+            if let Some(place) = self.places.get_mut(cluster) {
+                place.part = parts[cluster];
+            }
         }
     }
 
-    /// Notes the next class: what it weighs, and the clusters that need it.
-    pub(crate) fn note(
-        &mut self,
-        numbers: u32,
-        clusters: &[u32],
-        weight: u32,
-    ) -> Result<(), AllocError>
-        requires numbers { numbers ≤ 16 }
-        requires clusters { All (λ cluster. cluster < length self.old.places.items) clusters.now }
-        ensures counts { OnOk result (length self.new.counts.items ≡ length self.old.counts.items + 1) }
-        ensures places { length self.new.places.items ≡ length self.old.places.items }
-    {
+    // Notes what a class weighs of which so many clusters of a part need it, and the clusters that do.
+    fn weigh(&mut self, part: PartNumber, count: u16, clusters: &[u32], weight: u32) {
+        if count != 0 {
+            let number = part.number as usize;
+            self.loads[number] = self.loads[number].saturating_add(weight);
+        }
+        if count == 1 {
+            add_alone(&mut self.places, part, clusters, u64::from(weight));
+        }
+    }
+
+    /// Notes a class: what it weighs, and the clusters that need it.
+    pub(crate) fn note(&mut self, class: usize, clusters: &[u32], weight: u32) {
         let counts = counts_among(&self.places, clusters);
-        self.counts.push(counts)?;
-        for number in 0..numbers {
+        if let Some(of_class) = self.counts.get_mut(class) {
+            *of_class = counts;
+        }
+        miss_all(&mut self.places, &counts, clusters, u64::from(weight));
+        for number in 0..16_u32 {
             self.weigh(
                 PartNumber::of(number),
                 counts[number as usize],
@@ -171,33 +177,40 @@ impl Parts {
                 weight,
             );
         }
-        Ok(())
-    }
-
-    /// What a cluster weighs that is in no part: all that it needs is missing in the first part, as in any.
-    pub(crate) fn weight_of(&self, cluster: usize) -> u32
-        requires { cluster < length self.now.places.items }
-    {
-        cut_off(self.places[cluster].missing[0])
     }
 
     /// By how much the fourth power of a part's load rises with a cluster that isn't there.
-    pub(crate) fn rise(&self, part: PartNumber, cluster: usize) -> f64
-        requires { cluster < length self.now.places.items }
-    {
+    pub(crate) fn rise(&self, part: PartNumber, place: &Place) -> f64 {
         let number = part.number as usize;
         let load = self.loads[number];
-        let more = cut_off(self.places[cluster].missing[number]);
+        let more = cut_off(place.missing[number]);
         fourth(load.saturating_add(more)) - fourth(load)
     }
 
     /// By how much it falls without one of its clusters.
-    pub(crate) fn fall(&self, part: PartNumber, cluster: usize) -> f64
-        requires { cluster < length self.now.places.items }
-    {
+    pub(crate) fn fall(&self, part: PartNumber, place: &Place) -> f64 {
         let load = self.loads[part.number as usize];
-        let less = cut_off(self.places[cluster].alone);
+        let less = cut_off(place.alone);
         fourth(load) - fourth(load.saturating_sub(less))
+    }
+
+    // Adds to how many clusters of a part need a class, and answers how many did.
+    fn recount(&mut self, part: PartNumber, class: usize, more: u16) -> u16 {
+        match self.counts.get_mut(class) {
+            None => u16::MAX,
+            Some(counts) => {
+                let count = counts[part.number as usize];
+                counts[part.number as usize] = count.wrapping_add(more);
+                count
+            }
+        }
+    }
+
+    // Adds so much to what a cluster needs alone in its part.
+    fn add_to(&mut self, cluster: usize, weight: u64) {
+        if let Some(place) = self.places.get_mut(cluster) {
+            place.alone = place.alone.wrapping_add(weight);
+        }
     }
 
     /// Notes that one more cluster of a part needs a class, one that isn't marked as there yet.
@@ -208,38 +221,24 @@ impl Parts {
         class: usize,
         weight: u32,
         clusters: &[u32],
-    )
-        requires class { class < length self.old.counts.items }
-        requires cluster { cluster < length self.old.places.items }
-        requires clusters { All (λ cluster. cluster < length self.old.places.items) clusters.now }
-        ensures counts { length self.new.counts.items ≡ length self.old.counts.items }
-        ensures places { length self.new.places.items ≡ length self.old.places.items }
-    {
+    ) {
         let number = part.number as usize;
-        let count = self.counts[class][number];
-        self.counts[class][number] = count.wrapping_add(1);
         let more = u64::from(weight);
+        let count = self.recount(part, class, 1);
         if count == 0 {
             self.loads[number] = self.loads[number].saturating_add(weight);
             add_missing(&mut self.places, part, clusters, more.wrapping_neg());
-            let alone = self.places[cluster].alone;
-            self.places[cluster].alone = alone.wrapping_add(more);
+            self.add_to(cluster, more);
         } else if count == 1 {
             add_alone(&mut self.places, part, clusters, more.wrapping_neg());
         }
     }
 
     /// Notes that one cluster less of a part needs a class, one that isn't marked as there any more.
-    pub(crate) fn remove(&mut self, part: PartNumber, class: usize, weight: u32, clusters: &[u32])
-        requires class { class < length self.old.counts.items }
-        requires clusters { All (λ cluster. cluster < length self.old.places.items) clusters.now }
-        ensures counts { length self.new.counts.items ≡ length self.old.counts.items }
-        ensures places { length self.new.places.items ≡ length self.old.places.items }
-    {
+    pub(crate) fn remove(&mut self, part: PartNumber, class: usize, weight: u32, clusters: &[u32]) {
         let number = part.number as usize;
-        let count = self.counts[class][number];
-        self.counts[class][number] = count.wrapping_sub(1);
         let more = u64::from(weight);
+        let count = self.recount(part, class, u16::MAX);
         if count == 1 {
             self.loads[number] = self.loads[number].saturating_sub(weight);
             add_missing(&mut self.places, part, clusters, more);
