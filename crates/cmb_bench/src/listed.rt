@@ -118,7 +118,10 @@ pub fn read_list(alloc: Global, netlist: &Netlist, text: &[u8]) -> Result<Vec<u3
         return Err(ListFault::Memory);
     };
     let mut said = IndexSet::new(alloc);
-    read_names(netlist, &buses, text, &mut said)?;
-    let nets = meant_nets(alloc, netlist, &said)?;
-    Ok(nets)
+    let nets = match read_names(netlist, &buses, text, &mut said) {
+        Ok(()) => meant_nets(alloc, netlist, &said),
+        Err(fault) => Err(fault),
+    };
+    drop((buses, said));
+    nets
 }

@@ -1,6 +1,6 @@
 -- One more step of a loop that writes, and the parts of a line.
 use Rattle.std.proofs.Common.{◌≡◌, ◌≤◌, ◌<◌, ◌+◌, ℕ, suc, ◌-◌, List, [], ◌++◌, length, drop, get_or, refl, sym, ap, arith, ◌∙◌, append_assoc, add-one, drop-cons}
-use Rattle.std.specs.Prelude.{codes}
+use Rattle.std.specs.Prelude.{codes, if◌then◌else◌, is_ok, Ok, Err, OnOk, Result}
 use Rattle.std.proofs.lemmas.List.{append-nil, drop_all}
 use Rattle.cmb_wave.specs.declared.level.Level.{Level}
 use Rattle.cmb_design_model.proofs.LevelFacts.{push-rest}
@@ -13,6 +13,11 @@ rest_none f xs i old all h e g = sym (append-nil old) ∙ ap (λ t. old ++ t) (s
 -- two pieces written in turn
 pub joined : {X : Type 0} (a b c x y : List X) → b ≡ a ++ x → c ≡ b ++ y → c ≡ a ++ (x ++ y)
 joined a b c x y e f = rw e at f ∙ append_assoc a x y
+
+-- the last piece, which is written or refused
+pub appended : {T E X : Type 0} (result : Result T E) (P : Type 0) (old new piece : List X) → new ≡ (if is_ok result then old ++ piece else old) → (new ≡ old ++ piece → P) → OnOk result P
+appended (Ok done) P old new piece is then-P = then-P is
+appended (Err fault) P old new piece is then-P = tt
 
 -- the lines up to the end of the declarations, written in turn
 pub header-written : (names : List (List ℕ)) (start opened declared all : List ℕ) → opened ≡ start ++ codes "$version cmbsim 1 $end\n$timescale 1 ns $end\n$scope module top $end\n"

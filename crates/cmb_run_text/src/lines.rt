@@ -92,8 +92,7 @@ fn push_var(out: &mut Vec<u8>, net: u32, name: &[u8]) -> Result<(), AllocError>
     push_code(out, net)?;
     out.extend_from_slice(b" ")?;
     push_reference(out, name)?;
-    out.extend_from_slice(b" $end\n")?;
-    Ok(())
+    out.extend_from_slice(b" $end\n")
 }
 
 fn push_vars(out: &mut Vec<u8>, netlist: &Netlist) -> Result<(), AllocError>
@@ -116,8 +115,7 @@ pub fn push_header(out: &mut Vec<u8>, netlist: &Netlist) -> Result<(), AllocErro
 {
     out.extend_from_slice(HEAD)?;
     push_vars(out, netlist)?;
-    out.extend_from_slice(FOOT)?;
-    Ok(())
+    out.extend_from_slice(FOOT)
 }
 
 /// The declarations of chosen nets, each with the code of its place in the list.
@@ -144,6 +142,5 @@ pub fn push_chosen_header(
 {
     out.extend_from_slice(HEAD)?;
     push_chosen_vars(out, netlist, nets)?;
-    out.extend_from_slice(FOOT)?;
-    Ok(())
+    out.extend_from_slice(FOOT)
 }

@@ -96,7 +96,6 @@ impl Codes {
     pub(crate) fn push(&self, out: &mut Vec<u8>, level: Level, net: u16) -> Result<(), AllocError>
         ensures { OnOk result (out.new.items ≡ out.old.items ++ level_line level net) }
     {
-        push_line(out, byte_of(level), self.of(net))?;
-        Ok(())
+        push_line(out, byte_of(level), self.of(net))
     }
 }

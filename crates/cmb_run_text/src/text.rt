@@ -85,8 +85,8 @@ fn push_counted(
     requires count { count ≡ length (value_changes_in parts.now) }
     ensures { OnOk result (out.new.items ≡ out.old.items ++ span_lines (value_changes_in parts.now) from to) }
 {
-    let sorted = by_ticks(*out.allocator(), parts, from, to, count)?;
     out.reserve(count as usize * LONGEST_LINE)?;
+    let sorted = by_ticks(*out.allocator(), parts, from, to, count)?;
     push_by_ticks(out, codes, from, &sorted.ends, &sorted.marks)
 }
 

@@ -1,4 +1,4 @@
-use Rattle.std.proofs.Common.{◌≡◌, ◌+◌, false, true, ◌||◌, Bool, cond, eqb, get_or, ℕ, [], ◌∷◌, ◌++◌, sym, ◌∙◌, ap}
+use Rattle.std.proofs.Common.{◌≡◌, ◌+◌, false, true, ◌||◌, Bool, cond, eqb, get_or, ℕ, [], ◌∷◌, ◌++◌, length, arith, sym, ◌∙◌, ap}
 use Rattle.std.specs.Prelude.{filter}
 use Rattle.std.specs.List.{range_with_len}
 use Rattle.std.proofs.lemmas.List.{append-nil}
@@ -19,3 +19,9 @@ loop-net-preserved c =
           let no_here : held c.loop-net.net ≡ false = sym c.is_held.ensures ∙ w.if-is_held.false in
           ap (λ v. v.items) w.nets-is ∙ c.loop-net.invariant ∙ sym (more ∙ ap (λ b. filter held (range_with_len 0 c.loop-net.net) ++ cond b (c.loop-net.net ∷ []) []) no_here ∙ append-nil _)
     ]
+
+pub returns : goal.returns
+returns c =
+    let held : ℕ → Bool = λ net. eqb (cluster_of c.args.clustering.now net) c.args.cluster || get_or c.args.read.now net false in
+    let all : c.loop-net.net ≡ length c.args.read.now = omega (arith, c.loop-net-test.false, c.loop-net.auto.net-end) in
+    c.loop-net.invariant ∙ ap (λ n. filter held (range_with_len 0 n)) all

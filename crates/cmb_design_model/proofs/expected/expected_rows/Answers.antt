@@ -1,6 +1,6 @@
 use Rattle.std.proofs.Common.{◌≡◌, ◌∙◌, List, [], ◌∷◌, ◌++◌, arith, length, map, refl, subst, sym, take, true, ap}
 use Rattle.std.specs.Prelude.{All, is_ok, not}
-use Rattle.std.proofs.lemmas.List.{map_more}
+use Rattle.std.proofs.lemmas.List.{length-map, map_more, take_all}
 use Rattle.std.proofs.lemmas.List.Elements.{All-push}
 use Rattle.std.proofs.lemmas.Result.{err_from_is_err_and}
 use Rattle.cmb_design_model.specs.Checks.{checks_after, first_fault}
@@ -41,3 +41,23 @@ loop-i-preserved c =
           ∙ sym (map_more (expected_of netlist) rows c.loop-i.i row.0 (omega arith));
       within = subst (All (IsWithin c.args.design.now)) (sym pushed) (All-push (IsWithin c.args.design.now) c.loop-i.all.items c.in_ok-expected.expected c.loop-i.invariant.within c.in_ok-expected.ensures.within);
     }
+
+pub returns-clause-checks : goal.returns-clause-checks
+returns-clause-checks c =
+    let whole : take c.loop-i.i c.as_slice-rows.result.now ≡ c.args.rows.now = take_all c.loop-i.i c.as_slice-rows.result.now (omega arith) ∙ c.as_slice-rows.ensures.value in
+    rw whole at c.loop-i.invariant.passed
+
+pub returns-clause-rows : goal.returns-clause-rows
+returns-clause-rows c =
+    let whole : take c.loop-i.i c.as_slice-rows.result.now ≡ c.args.rows.now = take_all c.loop-i.i c.as_slice-rows.result.now (omega arith) ∙ c.as_slice-rows.ensures.value in
+    c.loop-i.invariant.rows ∙ ap (map (expected_of c.args.design.now.netlist)) whole
+
+pub returns-clause-within : goal.returns-clause-within
+returns-clause-within c = c.loop-i.invariant.within
+
+pub returns-clause-few : goal.returns-clause-few
+returns-clause-few c =
+    let rows = c.as_slice-rows.result.now in
+    let whole : take c.loop-i.i rows ≡ rows = take_all c.loop-i.i rows (omega arith) in
+    let count : length c.loop-i.all.items ≡ length rows = ap length (c.loop-i.invariant.rows ∙ ap (map (expected_of c.args.design.now.netlist)) whole) ∙ length-map rows (expected_of c.args.design.now.netlist) in
+    omega (arith, count, ap length c.as_slice-rows.ensures.value, c.as_slice-rows.ensures.lawful.few)

@@ -1,7 +1,7 @@
 use Rattle.std.specs.Prelude.{codes, ◌++◌}
 use Rattle.std.proofs.Common.{◌∙◌, ap, append_assoc, sym}
 use Rattle.cmb_run_text.specs.Vcd.{code, reference, var_line}
-use Rattle.cmb_run_text.proofs.LineFacts.{joined}
+use Rattle.cmb_run_text.proofs.LineFacts.{appended, joined}
 use Rattle.cmb_run_text.proofs.lines.push_var.Goals as goal
 
 pub returns : goal.returns
@@ -16,8 +16,9 @@ returns c =
     let head = codes "$var wire 1 " in
     let id = code c.args.net in
     let ref = reference c.args.name.now in
+    appended c.extend_from_slice-3.result _ e f (codes " $end\n") c.extend_from_slice-3.ensures.items (λ last.
     joined o e f (head ++ id ++ codes " " ++ ref) (codes " $end\n") (
     joined o d e (head ++ id ++ codes " ") ref (
     joined o b d (head ++ id) (codes " ") (joined o a b head id c.in_ok-extend_from_slice.ensures.items c.in_ok-push_code.ensures) c.in_ok-extend_from_slice-2.ensures.items
     ) c.in_ok-push_reference.ensures
-    ) c.in_ok-extend_from_slice-3.ensures.items ∙ ap (λ t. o ++ t) (sym (append_assoc (head ++ id ++ codes " " ++ ref) (codes " $end") (codes "\n")))
+    ) last ∙ ap (λ t. o ++ t) (sym (append_assoc (head ++ id ++ codes " " ++ ref) (codes " $end") (codes "\n"))))
