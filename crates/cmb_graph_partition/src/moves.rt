@@ -54,7 +54,12 @@ impl<'a> Placement<'a> {
         let mut parts = Parts::new(alloc, clusters, self.weights.len())?;
         parts.settle(of);
         for class in 0..self.weights.len() {
-            parts.note(class, self.needed.of(class), self.weights[class]);
+            parts.note(
+                self.count,
+                class,
+                self.needed.of(class),
+                self.weights[class],
+            );
         }
         Ok(parts)
     }

@@ -1,6 +1,6 @@
 //! Parts with clusters, what they weigh, and what it would cost to move clusters.
 
-ghost use Rattle.std.specs.Prelude.{◌≡◌, ◌<◌};
+ghost use Rattle.std.specs.Prelude.{◌≡◌, ◌<◌, ◌≤◌};
 
 use std::alloc::{AllocError, Global};
 
@@ -73,8 +73,10 @@ impl Place {
     }
 
     // Notes a class that the cluster needs and so many clusters of each part: so much is missing where none does.
-    fn miss(&mut self, counts: &[u16; 16], weight: u64) {
-        for number in 0..16 {
+    fn miss(&mut self, parts: usize, counts: &[u16; 16], weight: u64)
+        requires { parts ≤ 16 }
+    {
+        for number in 0..parts {
             if counts[number] == 0 {
                 self.missing[number] = self.missing[number].wrapping_add(weight);
             }
@@ -102,10 +104,12 @@ fn counts_among(places: &[Place], clusters: &[u32]) -> [u16; 16] {
 }
 
 // Notes a class that so many clusters of each part need, for each cluster that needs it.
-fn miss_all(places: &mut [Place], counts: &[u16; 16], clusters: &[u32], weight: u64) {
+fn miss_all(places: &mut [Place], parts: usize, counts: &[u16; 16], clusters: &[u32], weight: u64)
+    requires { parts ≤ 16 }
+{
     for cluster in clusters {
         if let Some(place) = places.get_mut(*cluster as usize) {
-            place.miss(counts, weight);
+            place.miss(parts, counts, weight);
         }
     }
 }
@@ -162,14 +166,17 @@ impl Parts {
         }
     }
 
-    /// Notes a class: what it weighs, and the clusters that need it.
-    pub(crate) fn note(&mut self, class: usize, clusters: &[u32], weight: u32) {
+    /// Notes a class: what it weighs, and the clusters that need it, in so many parts.
+    pub(crate) fn note(&mut self, parts: u32, class: usize, clusters: &[u32], weight: u32)
+        requires { parts ≤ 16 }
+    {
         let counts = counts_among(&self.places, clusters);
         if let Some(of_class) = self.counts.get_mut(class) {
             *of_class = counts;
         }
-        miss_all(&mut self.places, &counts, clusters, u64::from(weight));
-        for number in 0..16_u32 {
+        let more = u64::from(weight);
+        miss_all(&mut self.places, parts as usize, &counts, clusters, more);
+        for number in 0..parts {
             self.weigh(
                 PartNumber::of(number),
                 counts[number as usize],

@@ -42,7 +42,8 @@ fn checked(families: Families, cones: Cones, nets: usize) -> Option<Structure>
 {
     let classes = families.imports.len();
     if families.of_nets.len() != nets || !are_below(&families.of_nets, classes) {
-        drop((families, cones));
+        drop(families);
+        drop(cones);
         return None;
     }
     Some(Structure { families, cones })
