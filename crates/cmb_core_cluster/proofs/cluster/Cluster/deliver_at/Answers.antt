@@ -1,5 +1,5 @@
-use Rattle.std.proofs.Common.{◌≡◌, ◌<◌, ◌∙◌, Ok, ap, arith, get_or, get_or-set_same, length, set, subst, sym}
-use Rattle.std.specs.Prelude.{IfErr, IfOk, OnOk}
+use Rattle.std.proofs.Common.{◌≡◌, ◌<◌, ◌∙◌, ap, arith, get_or, get_or-set_same, length, set, subst, sym}
+use Rattle.std.specs.Prelude.{IfErr, IfOk}
 use Rattle.cmb_wave.specs.Calls.{RefusesAs, taken}
 use Rattle.cmb_wave.specs.Wave.{Wave, new_wave}
 use Rattle.cmb_core_cluster.specs.Clusters.{Cluster, slot_wave}
@@ -23,11 +23,6 @@ now : (c : goal.After-self-1) → get_or (set c.self.inside.waves.items c.args.s
 now c =
     let there : c.args.slot < length c.self.inside.waves.items = omega (arith, ap (λ (s : Cluster). length s.waves) c.self.view_is, c.requires) in
     get_or-set_same c.self.inside.waves.items c.args.slot c.take.new.self (new_wave 0) there
-
-pub returns-clause-ok : goal.returns-clause-ok
-returns-clause-ok c =
-    let told = subst (λ (w : Wave). OnOk c.take.result (taken w c.args.piece.now ≡ Ok c.take.new.self)) (was c) c.take.ensures.ok in
-    subst (λ (w : Wave). OnOk c.take.result (taken (slot_wave c.args.self.now c.args.slot) c.args.piece.now ≡ Ok w)) (sym (now c)) told
 
 pub returns-clause-waves : goal.returns-clause-waves
 returns-clause-waves c = ap (λ (s : Cluster). set s.waves c.args.slot c.take.new.self) c.self.view_is ∙ ap (set c.args.self.now.waves c.args.slot) (sym (now c))
