@@ -9,8 +9,8 @@ returns-clause-listed c =
     elim c.match-read_names.branch [
       | in-Ok-read_names w ↦
           rw w.nets-is (IfOk-weaker w.meant_nets-nets.result _ _
-            (λ nets meant. Lists-read c.args.netlist.now c.args.text.now nets.items c.read_names.new.said.keys w.in-Ok-read_names.ensures.said meant)
-            w.meant_nets-nets.ensures.meant)
+          (λ nets meant. Lists-read c.args.netlist.now c.args.text.now nets.items c.read_names.new.said.keys w.in-Ok-read_names.ensures.said meant)
+          w.meant_nets-nets.ensures.meant)
       | in-Err w ↦ rw w.nets-is tt
     ]
 
@@ -19,7 +19,7 @@ returns-clause-nets c =
     elim c.match-read_names.branch [
       | in-Ok-read_names w ↦
           rw w.nets-is (IfOk-weaker w.meant_nets-nets.result _ _
-            (λ nets meant. meant_within c.args.netlist.now (λ name. is_member name c.read_names.new.said.keys) nets.items meant)
-            w.meant_nets-nets.ensures.meant)
+          (λ nets meant. meant_within c.args.netlist.now (λ name. is_member name c.read_names.new.said.keys) nets.items meant)
+          w.meant_nets-nets.ensures.meant)
       | in-Err w ↦ rw w.nets-is tt
     ]
