@@ -1,7 +1,7 @@
 //! Which nets are written.
 
 /// Which nets are written.
-#[derive(Clone, Copy, PartialEq, Eq)]
+#[derive(Clone, Copy, Debug, PartialEq, Eq)]
 pub enum Choice {
     /// All nets.
     All,
@@ -10,7 +10,7 @@ pub enum Choice {
 }
 
 /// What names the nets that are written.
-#[derive(Clone, Copy, PartialEq, Eq)]
+#[derive(Clone, Copy, Debug, PartialEq, Eq)]
 pub enum Pick {
     /// A list of names: input 5.
     Listed,

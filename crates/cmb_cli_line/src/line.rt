@@ -6,7 +6,7 @@ use cmb_design_model::Settings;
 use cmb_netlist::PartCount;
 
 /// What is done with a design.
-#[derive(Clone, Copy, PartialEq, Eq)]
+#[derive(Clone, Copy, Debug, PartialEq, Eq)]
 pub enum Task {
     /// It is simulated, and its waveforms are written.
     Run,

@@ -13,7 +13,7 @@ use cmb_netlist::MAX_NETS;
 use std::alloc::{AllocError, Global};
 
 /// What is found of nets.
-#[derive(Clone, Copy)]
+#[derive(Clone, Copy, Debug, PartialEq, Eq)]
 pub enum Finding {
     /// Inputs that are x at each tick below the horizon.
     Silent,

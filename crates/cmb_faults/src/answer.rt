@@ -3,7 +3,7 @@
 use cmb_count::Counts;
 
 /// What was simulated and written.
-#[derive(Clone, Copy)]
+#[derive(Clone, Copy, Debug, PartialEq, Eq)]
 pub struct Report {
     /// How many nets the design has.
     pub nets: u32,
@@ -14,7 +14,7 @@ pub struct Report {
 }
 
 /// What was expected of a run, and how much of it came otherwise.
-#[derive(Clone, Copy)]
+#[derive(Clone, Copy, Debug, PartialEq, Eq)]
 pub struct Comparison {
     /// Of the text that lists the rows that differ.
     pub report: Report,
